@@ -1,0 +1,2 @@
+-- Lemmas on fields.
+pub mod Fields

@@ -1,0 +1,3 @@
+-- Definitions: fields of bytes, and what holds of them.
+pub mod Framing
+pub mod Laws
