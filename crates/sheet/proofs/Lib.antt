@@ -1,2 +1,25 @@
--- Lemmas on fields.
-pub mod Fields
+-- Lemmas on fields, on the rows that they say, and on sheets and their bytes.
+pub mod Parts
+pub mod Seen
+pub mod Lists
+pub mod Numbers
+pub mod TableSizes
+pub mod Passing
+pub mod Rows
+pub mod WellFormed
+pub mod FieldRead
+pub mod FieldWritten
+pub mod RowsWritten
+pub mod WrittenIsRead
+pub mod OneMore
+pub mod ReadIsWritten
+pub mod Short
+pub mod DueRows
+pub mod Crew
+pub mod Refused
+pub mod TenantSteps
+pub mod Appended
+pub mod RowsPut
+pub mod SheetPut
+pub mod Whole
+pub mod Said

@@ -1,7 +1,11 @@
 // Layer 1: cuts the bytes of a sheet into fields, whatever they mean.
 ghost use mathlib.Core.Path.{_≡_};
-ghost use Rattle.sheet.specs.Framing.{input, found, frame-at, place-after};
-ghost use Rattle.sheet.specs.Laws.{Fields-are-the-bytes};
+ghost use Prim.Native.Nat.{_+_, _<_, _^_};
+ghost use lib.ListN.{length};
+ghost use Rattle.std.specs.Vec.{made};
+ghost use Rattle.sheet.specs.Framing.{input, found, handed, required, frame-at, place-after};
+ghost use Rattle.sheet.specs.Laws.{Bytes, Fields-are-the-bytes};
+use crate::faults::FramingFault;
 use crate::reader::Reader;
 
 /// A field as the part of the input that it is: its tag, its content, and the offset of its first byte.
@@ -12,16 +16,21 @@ pub struct Frame<'a> {
     pub content: &'a [u8],
 }
 
-/// A field at this offset has fewer than three bytes, or its content is cut off.
-#[derive(Clone, Copy)]
-pub struct FramingFault {
-    pub at: usize,
+// A lemma: it does nothing, and whoever calls it may use what it ensures. (What a slice of bytes holds is known to be bytes where one of them is read.)
+pub(crate) fn are_bytes(bytes: &[u8])
+    ensures { λ _. ⌜ Bytes (now (bytes .entry)) ⌝ }
+{
+    if bytes.len() > 0 {
+        let _ = bytes[0];
+    }
 }
 
-// A lemma: it does nothing, and whoever calls it may use what it ensures.
+// A lemma: the law of the fields.
 fn fields_are_the_bytes(bytes: &[u8])
     ensures { λ _. ⌜ Fields-are-the-bytes (now (bytes .entry)) ⌝ }
-{}
+{
+    are_bytes(bytes);
+}
 
 impl<'a> Reader<'a> {
     /// A reader at the first byte.
@@ -60,5 +69,19 @@ impl<'a> Reader<'a> {
             at,
             content: &bytes[at + 3..end],
         }))
+    }
+
+    /// The field that has to be here; the end of the input is one that is cut off.
+    pub(crate) fn require(&mut self) -> Result<Frame<'a>, FramingFault>
+        ensures value { λ r. ⌜ handed r ≡ required (now (self .entry) .place) (frame-at (input (now (self .entry))) (now (self .entry) .place)) ⌝ }
+        ensures place { λ r. ⌜ now (self .exit) .place ≡ place-after (input (now (self .entry))) (now (self .entry) .place) ⌝ }
+        ensures input { λ r. ⌜ input (now (self .exit)) ≡ input (now (self .entry)) ⌝ }
+        ensures fits { λ r. ⌜ made r (λ f. f .at + 3 + length (now (f .content)) < 2 ^ 63) ⌝ }
+    {
+        let at = self.place;
+        match self.next()? {
+            Some(frame) => Ok(frame),
+            None => Err(FramingFault { at }),
+        }
     }
 }

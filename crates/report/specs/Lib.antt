@@ -1,0 +1,2 @@
+-- Definitions: what an input comes to.
+pub mod Outcomes

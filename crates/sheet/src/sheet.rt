@@ -1,0 +1,18 @@
+// What a sheet holds.
+ghost use mathlib.Core.Bool.{true};
+ghost use mathlib.Core.Path.{_≡_};
+ghost use Rattle.sheet.specs.Sheets.{tenants-in, well-formed};
+ghost use Rattle.sheet.specs.Texts.{text-of};
+use crate::tenants::Tenants;
+use fleet::Lists;
+use fleet::Ranking;
+
+/// A well-formed sheet: the workers' lists, the tenants, and the workers in quarantine.
+#[derive(Copy)]
+pub struct Sheet {
+    pub(crate) lists: Lists,
+    pub(crate) tenants: Tenants,
+    pub(crate) quarantine: Ranking<64>,
+    ghost counted: { lists .tenants ≡ tenants-in (text-of lists tenants quarantine) },
+    ghost formed: { well-formed (text-of lists tenants quarantine) ≡ true },
+}
