@@ -1,10 +1,9 @@
 -- Path independence and idempotence of a lawful choice; consistency from the other three laws.
 use Prim.Native.Nat.{ℕ, _<_}
 use native.Mathlib.Omega.{arith}
-use mathlib.Core.Bool.{true, false}
-use mathlib.Core.Path.{_≡_, refl, sym, ap, _∙_}
-use lib.Dec.{eqb}
-use Rattle.std.proofs.shelf.Tests.{or-left, or-right, eq-eqb}
+use mathlib.Core.Bool.{false}
+use mathlib.Core.Path.{_≡_, sym, ap, _∙_}
+use Rattle.std.proofs.shelf.Tests.{or-left, or-right}
 use Rattle.std.proofs.shelf.Ways.{tells}
 use Rattle.fleet.specs.Sets.{Set, Within, Workers, union, insert}
 use Rattle.fleet.proofs.Sizes.{set-ext, same-at, false-since, size-same}

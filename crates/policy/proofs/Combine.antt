@@ -1,12 +1,12 @@
 -- Policies made of others keep the laws: joined ones, and those that leave workers in quarantine out.
-use Prim.Native.Nat.{ℕ, _+_, _-_, _≤_, _<_, min}
+use Prim.Native.Nat.{ℕ, _+_, _-_, _≤_, min}
 use native.Mathlib.Omega.{arith}
 use native.Mathlib.Nat.{le-refl}
 use mathlib.Core.Bool.{Bool, true, false, cond}
 use mathlib.Core.Path.{_≡_, refl}
 use lib.Dec.{ltb}
 use Rattle.std.proofs.shelf.Tests.{ltb-true, ltb-false, false≢true}
-use Rattle.fleet.specs.Sets.{Set, nobody, minus, Workers, Within, size}
+use Rattle.fleet.specs.Sets.{Set, nobody, minus, Workers, size}
 use Rattle.policy.specs.Choice.{Choice, Policy, Inside, Substitutable, Monotone, Lawful, Keeps-laws}
 use Rattle.policy.specs.Combined.{joined, quarantined}
 use Rattle.policy.proofs.Choose.{consistent-from}

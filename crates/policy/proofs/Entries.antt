@@ -1,88 +1,28 @@
 -- A table whose entries pass the tests is a lawful choice, and consistent index by index.
-use Prim.Native.Nat.{ℕ, zero, suc, _+_, _*_, _/_, _%_, _^_, _≤_, _<_}
-use native.Mathlib.Nat.{pow-suc}
+use Prim.Native.Nat.{ℕ, _^_, _≤_, _<_}
 use native.Mathlib.Omega.{arith}
-use mathlib.Core.Bool.{Bool, true, false, cond, not, _&&_, _||_}
-use mathlib.Core.Path.{_≡_, refl, sym, ap, _∙_}
-use mathlib.Core.Logic.{_⊎_, inl, inr}
-use mathlib.Core.List.{List, [], _∷_}
+use mathlib.Core.Bool.{true, false, not, _&&_}
+use mathlib.Core.Path.{_≡_, sym, ap, _∙_}
+use mathlib.Core.List.{List}
 use lib.Dec.{eqb}
 use lib.Bits.{bitAnd}
 use lib.Count.{ones}
 use lib.ListN.{length, getD}
 use lib.Pow.{pow-mono}
-use Rattle.std.proofs.shelf.Bits.{and-le-l, and-le-r}
-use Rattle.std.proofs.shelf.Tests.{cases-lt, eqb-true, eq-eqb, and-parts, and-from, not-false, both-ways}
+use Rattle.std.proofs.shelf.Bits.{and-le-r}
+use Rattle.std.proofs.shelf.Tests.{eqb-true, and-parts, and-from, not-false}
 use Rattle.std.proofs.shelf.Ways.{tells}
-use Rattle.fleet.specs.Sets.{Set, Within, Workers, among, size}
+use Rattle.fleet.specs.Sets.{Set, Workers, among, size}
 use Rattle.fleet.specs.Market.{rank, On, different}
 use Rattle.fleet.specs.Members.{bit}
-use Rattle.fleet.proofs.Bitwise.{and-bit, bit-zero, bit-step, past-bit, same-bits, ones-count}
+use Rattle.fleet.proofs.Bitwise.{and-bit}
 use Rattle.fleet.proofs.Different.{among-getD, among-on, rank-same}
 use Rattle.fleet.proofs.Ranks.{rank-inj, getD-rank}
-use Rattle.fleet.proofs.Sizes.{size-into, size-same, same-at, false-since}
-use Rattle.policy.specs.Choice.{Choice, Inside, Substitutable, Monotone, Lawful}
-use Rattle.policy.specs.Tables.{index-of, named-by, table-choice, bits-within, outside, breaks-substitutability, breaks-monotonicity, breaks-consistency, Lawful-entries}
+use Rattle.fleet.proofs.Sizes.{size-into, false-since}
+use Rattle.policy.specs.Choice.{Inside, Substitutable, Monotone, Lawful}
+use Rattle.policy.specs.Tables.{index-of, table-choice, bits-within, breaks-consistency, Lawful-entries}
 use Rattle.policy.proofs.Choose.{consistent-from}
-
--- bits
-
--- a bit of a is a bit of b, where all of them are
-pub bit-within : (a b k : ℕ) → bits-within a b ≡ true → bit a k ≡ true → bit b k ≡ true
-bit-within a b k h i =
-    let e : bit (bitAnd a b) k ≡ bit a k = ap (λ (n : ℕ). bit n k) (eqb-true (bitAnd a b) a h) in
-    let s = and-bit a b k in
-    grind arith
-
-pub within-bits : (n a b : ℕ) → a < 2 ^ n → ((k : ℕ) → bit a k ≡ true → bit b k ≡ true) → bits-within a b ≡ true
-within-bits n a b l f = eq-eqb (bitAnd a b) a (same-bits n (bitAnd a b) a (omega (arith, and-le-l a b)) l (λ k. let s = and-bit a b k in let h = f k in grind arith))
-
-size-ones : (a : ℕ) → a < 2 ^ 64 → size (bit a) ≡ ones a
-unfolding size
-size-ones a l = sym (ones-count 64 a l)
-
-bit-below : (a : ℕ) → a < 2 ^ 64 → Workers (bit a)
-bit-below a l k h = go (cases-lt k 64)
-  where
-    go : (k < 64) ⊎ (64 ≤ k) → k < 64
-    go (inl s) = s
-    go (inr s) = absurd (both-ways (bit a k) (past-bit 64 a k l s) h)
-
--- a word within another that has no fewer ones is that word
-same-ones : (a b : ℕ) → a < 2 ^ 64 → b < 2 ^ 64 → bits-within a b ≡ true → ones b ≤ ones a → a ≡ b
-same-ones a b l m h few = same-bits 64 a b l m (λ k. same-at all k)
-  where
-    all : bit a ≡ bit b
-    all = size-same (bit a) (bit b) (bit-below b m) (λ k. bit-within a b k h) (omega (arith, size-ones a l, size-ones b m))
-
--- the index of a set
-
-pub index-below : (ws : List ℕ) (Z : Set) → index-of ws Z < 2 ^ length ws
-index-below [] Z = omega arith
-index-below (w ∷ ws) Z = let i = index-below ws Z in let p = pow-suc 2 (length ws) in grind arith
-
-pub index-bit : (ws : List ℕ) (Z : Set) (k d : ℕ) → k < length ws → bit (index-of ws Z) k ≡ Z (getD ws k d)
-index-bit [] Z k d l = absurd (omega arith)
-index-bit (w ∷ ws) Z zero d l = bit-zero (index-of (w ∷ ws) Z) ∙ grind (arith, tells)
-index-bit (w ∷ ws) Z (suc k) d l =
-    bit-step (index-of (w ∷ ws) Z) k ∙ ap (λ (n : ℕ). bit n k) half ∙ index-bit ws Z k d (omega arith)
-  where
-    half : index-of (w ∷ ws) Z / 2 ≡ index-of ws Z
-    half = grind arith
-
-bit-index : (ws : List ℕ) (Z : Set) (k : ℕ) → bit (index-of ws Z) k ≡ true → k < length ws
-bit-index ws Z k h = go (cases-lt k (length ws))
-  where
-    go : (k < length ws) ⊎ (length ws ≤ k) → k < length ws
-    go (inl l) = l
-    go (inr l) = absurd (both-ways (bit (index-of ws Z) k) (past-bit (length ws) (index-of ws Z) k (index-below ws Z) l) h)
-
-index-within : (ws : List ℕ) (Y Z : Set) → Within Y Z → bits-within (index-of ws Y) (index-of ws Z) ≡ true
-index-within ws Y Z i = within-bits (length ws) (index-of ws Y) (index-of ws Z) (index-below ws Y) (λ k h.
-    let l = bit-index ws Y k h in
-    index-bit ws Z k 0 l ∙ i _ (sym (index-bit ws Y k 0 l) ∙ h))
-
--- entries that pass the tests
+use Rattle.policy.proofs.Indices.{bit-within, size-ones, same-ones, index-below, index-bit, bit-index, index-within}
 
 module _ (n : ℕ) (es : List ℕ) (few : n ≤ 64) (law : Lawful-entries (2 ^ n) es) where
   entry-below : (z : ℕ) → z < 2 ^ n → getD es z 0 < 2 ^ 64

@@ -1,9 +1,8 @@
 -- Entries without a fault are lawful, and what a table without a fault is.
-use Prim.Native.Nat.{ℕ, _^_, _<_, _≤_}
-use native.Mathlib.Omega.{arith}
+use Prim.Native.Nat.{ℕ, _^_, _≤_}
 use mathlib.Core.Bool.{Bool, true, false, cond}
 use mathlib.Core.List.{List}
-use mathlib.Core.Path.{_≡_, refl, sym, ap}
+use mathlib.Core.Path.{_≡_, refl}
 use lib.Dec.{eqb, ltb}
 use lib.ListN.{length}
 use Rattle.std.specs.Options.{isSome}
@@ -14,7 +13,6 @@ use Rattle.policy.specs.Search.{seek, seek-pair, Least, Least-pair}
 use Rattle.policy.specs.Tables.{outside, Lawful-entries}
 use Rattle.policy.specs.Faults.{breaks, or-outside, or-broken, law-fault, entries-fault, table-fault}
 use Rattle.policy.specs.declared.fault.TableLaw.the-variants.{Substitutability, Monotonicity, Consistency}
-use Rattle.policy.specs.declared.fault.TableFault.{TableFault}
 use Rattle.policy.specs.declared.fault.TableFault.the-variants.{Workers, Entries}
 use Rattle.policy.proofs.Searches.{seek-least, seek-pair-least}
 

@@ -1,13 +1,10 @@
 -- The tenants of a roster: how many, which at a number, and one more.
 use Prim.Native.Nat.{ℕ, _+_, _<_, _≤_}
 use native.Mathlib.Omega.{arith}
-use mathlib.Core.Bool.{true, cond}
-use mathlib.Core.List.{List, [], _∷_, _++_}
+use mathlib.Core.Bool.{true}
 use mathlib.Core.Path.{_≡_, sym, ap, _∙_}
-use lib.Dec.{ltb}
 use lib.ListN.{length, getD, take, set}
 use Rattle.std.specs.Finite.{nth}
-use Rattle.std.specs.declared.option.Option.{Option}
 use Rattle.std.specs.declared.option.Option.the-variants.{Some, None}
 use Rattle.std.proofs.shelf.Lists.{length-take-le, getD-take, take-more-set}
 use Rattle.std.proofs.shelf.Maps.{nth-getD, nth-past}

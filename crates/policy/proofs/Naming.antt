@@ -1,8 +1,8 @@
 -- The index of a set from a place on, and the workers that an entry names up to a place, one place at a time.
 use Prim.Native.Nat.{ℕ, _+_, _-_, _*_, _/_, _^_, _<_, _≤_}
 use native.Mathlib.Omega.{arith}
-use mathlib.Core.Bool.{Bool, true, false, cond, _&&_, _||_}
-use mathlib.Core.List.{List, _∷_}
+use mathlib.Core.Bool.{Bool, true, false, cond, _&&_}
+use mathlib.Core.List.{List}
 use mathlib.Core.Logic.{_⊎_, inl, inr}
 use mathlib.Core.Path.{_≡_, sym, ap, _∙_, fun-ext}
 use lib.Dec.{eqb, ltb}
@@ -13,13 +13,13 @@ use Rattle.std.proofs.shelf.Bits.{and-mask}
 use Rattle.std.proofs.shelf.Lists.{drop-more}
 use Rattle.std.proofs.shelf.Tests.{cases-eq}
 use Rattle.std.proofs.shelf.Ways.{tells}
-use Rattle.fleet.specs.Sets.{Set, among, with-worker}
+use Rattle.fleet.specs.Sets.{Set, with-worker}
 use Rattle.fleet.specs.Market.{rank, different}
 use Rattle.fleet.specs.Members.{bit}
 use Rattle.fleet.proofs.Different.{among-on, rank-same}
 use Rattle.fleet.proofs.Ranks.{getD-rank}
 use Rattle.policy.specs.Tables.{index-of, named-by}
-use Rattle.policy.proofs.Entries.{index-below}
+use Rattle.policy.proofs.Indices.{index-below}
 
 -- the index from the place before on
 pub index-more : (ws : List ℕ) (Z : Set) (i : ℕ) → 0 < i → i ≤ length ws → index-of (drop (i - 1) ws) Z ≡ 2 * index-of (drop i ws) Z + cond (Z (getD ws (i - 1) 0)) 1 0

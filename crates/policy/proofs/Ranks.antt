@@ -1,17 +1,17 @@
 -- The first so many workers of a list that are in a set: a walk with room for so many, and so a lawful choice.
 use Prim.Native.Nat.{ℕ, zero, suc, _+_, _≤_, min}
 use native.Mathlib.Omega.{arith}
-use mathlib.Core.Bool.{Bool, true, false, cond, _||_, _&&_}
+use mathlib.Core.Bool.{Bool, true, false, cond, _||_}
 use mathlib.Core.Path.{_≡_, refl, sym, ap, _∙_, subst, fun-ext}
 use mathlib.Core.List.{List, [], _∷_}
-use lib.Dec.{eqb, ltb}
+use lib.Dec.{ltb}
 use lib.ListN.{length, take}
 use Rattle.std.specs.shelf.Lists.{kept-by}
 use Rattle.std.proofs.shelf.Ways.{tells}
 use Rattle.fleet.specs.Sets.{Set, Workers, among, size}
+use Rattle.fleet.specs.Market.{different}
 use Rattle.policy.specs.Choice.{Choice, Lawful}
 use Rattle.policy.specs.Kinds.{ranked, walk, turn}
-use Rattle.fleet.specs.Market.{different}
 use Rattle.policy.proofs.Walks.{Orderly, walk-lawful, walk-count}
 
 -- fewer than the cap are taken

@@ -1,17 +1,17 @@
 -- The walk with caps for classes, for a loop that counts those it takes, all and by class.
 use Prim.Native.Nat.{ℕ, _+_, _<_, _≤_}
 use native.Mathlib.Omega.{arith}
-use mathlib.Core.Bool.{Bool, true, false, cond, _&&_}
-use mathlib.Core.List.{List, [], _∷_}
+use mathlib.Core.Bool.{Bool, true, false, _&&_}
+use mathlib.Core.List.{List, _∷_}
 use mathlib.Core.Logic.{_⊎_, inl, inr}
-use mathlib.Core.Path.{_≡_, refl, sym, ap, subst, _∙_}
-use lib.Dec.{eqb, ltb}
+use mathlib.Core.Path.{_≡_, sym, ap, ap₂, subst, _∙_}
+use lib.Dec.{ltb}
 use lib.ListN.{length, getD, set}
 use Rattle.std.proofs.shelf.Lists.{length-set, getD-set-same, getD-set-other}
-use Rattle.std.proofs.shelf.Tests.{lt-ltb, le-ltb, and-from, and-left, and-right, cases-eq, cond-true, cond-false}
+use Rattle.std.proofs.shelf.Tests.{and-from, cases-eq, cond-true, cond-false}
 use Rattle.std.proofs.shelf.Ways.{tells}
 use Rattle.fleet.specs.Sets.{Set, among, with-worker}
-use Rattle.policy.specs.Kinds.{of-class, has-seat, seated, turn}
+use Rattle.policy.specs.Kinds.{of-class, has-seat, seated}
 use Rattle.policy.proofs.Turns.{Taken, walked, walked-all, walked-more, joins, passes}
 
 -- one more of a class
@@ -46,23 +46,19 @@ module _ (classes : List ℕ) (overall : ℕ) (caps : List ℕ) (Z : Set) (l : L
     abbrev w : ℕ
     w = getD l i 0
 
+    -- whether there is a seat, by the counts
+    pub seat-is : class w < 8 → room (walked room Z l i) w ≡ (ltb n overall && ltb (getD by-class (class w) 0) (getD caps (class w) 0))
+    seat-is known = ap₂ (λ (a b : ℕ). ltb a overall && ltb b (getD caps (class w) 0)) (sym (s .members .1)) (sym (s .counts (class w) known))
+
     -- the worker is taken
-    pub seats-one : (B : Set) (m : ℕ) (counts : List ℕ) → w < 64 → class w < 8 → Z w ≡ true → n < overall → getD by-class (class w) 0 < getD caps (class w) 0 →
+    pub seats-one : (B : Set) (m : ℕ) (counts : List ℕ) → w < 64 → class w < 8 → Z w ≡ true → room (walked room Z l i) w ≡ true →
         B ≡ with-worker A w → m ≡ n + 1 → counts ≡ set by-class (class w) (getD by-class (class w) 0 + 1) → Seating (i + 1) B m counts
-    seats-one B m counts small known z free free-of e f g = record {
+    seats-one B m counts small known z seat e f g = record {
       members = joins room Z l i h A B n m (s .members) small z seat e f;
       eight = ap length g ∙ length-set by-class (class w) (getD by-class (class w) 0 + 1) ∙ s .eight;
-      counts = λ c k. ap (λ (b : List ℕ). getD b c 0) g ∙ one-more class c w T by-class (omega (arith, s .eight)) (s .counts (class w) known) (s .counts c k) ∙ ap (of-class class c) (sym grown);
+      counts = λ c k. ap (λ (b : List ℕ). getD b c 0) g ∙ one-more class c w (walked room Z l i) by-class (omega (arith, s .eight)) (s .counts (class w) known) (s .counts c k)
+          ∙ ap (of-class class c) (sym (walked-more room Z l i h ∙ cond-true _ _ _ (and-from _ _ z seat)));
     }
-      where
-        T : List ℕ
-        T = walked room Z l i
-
-        seat : room T w ≡ true
-        seat = and-from _ _ (lt-ltb (length T) overall (omega (arith, s .members .1))) (lt-ltb (of-class class (class w) T) (getD caps (class w) 0) (omega (arith, s .counts (class w) known)))
-
-        grown : walked room Z l (i + 1) ≡ w ∷ T
-        grown = walked-more room Z l i h ∙ cond-true _ _ _ (and-from _ _ z seat)
 
     -- the worker is passed over
     pub seats-none : (B : Set) (m : ℕ) (counts : List ℕ) → (Z w && room (walked room Z l i) w) ≡ false → B ≡ A → m ≡ n → counts ≡ by-class → Seating (i + 1) B m counts
@@ -71,17 +67,6 @@ module _ (classes : List ℕ) (overall : ℕ) (caps : List ℕ) (Z : Set) (l : L
       eight = ap length g ∙ s .eight;
       counts = λ c k. ap (λ (b : List ℕ). getD b c 0) g ∙ s .counts c k ∙ ap (of-class class c) (sym (walked-more room Z l i h ∙ cond-false _ _ _ z));
     }
-
-    -- it is not in the set, all seats are taken, or those of its class are
-
-    pub absent : Z w ≡ false → (Z w && room (walked room Z l i) w) ≡ false
-    absent z = and-left (Z w) (room (walked room Z l i) w) z
-
-    pub full : overall ≤ n → (Z w && room (walked room Z l i) w) ≡ false
-    full k = let e = s .members .1 in grind (arith, tells)
-
-    pub class-full : class w < 8 → getD caps (class w) 0 ≤ getD by-class (class w) 0 → (Z w && room (walked room Z l i) w) ≡ false
-    class-full known k = let e = s .counts (class w) known in grind (arith, tells)
 
   pub seated-all : (i : ℕ) (A : Set) (n : ℕ) (by-class : List ℕ) → Seating i A n by-class → length l ≤ i → A ≡ seated classes overall caps l Z
   seated-all i A n by-class s h = s .members .0 ∙ ap among (walked-all room Z l i h)

@@ -1,20 +1,20 @@
 -- Walks with an overall cap and caps for classes are lawful.
 use Prim.Native.Nat.{ℕ, zero, suc, _+_, _≤_, _<_, min}
 use native.Mathlib.Omega.{arith}
-use mathlib.Core.Bool.{Bool, true, false, cond, _||_, _&&_}
-use mathlib.Core.Path.{_≡_, refl, sym, ap, _∙_}
+use mathlib.Core.Bool.{Bool, true, cond}
+use mathlib.Core.Path.{_≡_, refl, _∙_}
 use mathlib.Core.Logic.{_⊎_, inl, inr}
 use mathlib.Core.List.{List, [], _∷_}
-use lib.Dec.{eqb, ltb}
+use lib.Dec.{eqb}
 use lib.ListN.{length, getD}
 use Rattle.std.specs.shelf.Lists.{kept-by}
 use Rattle.std.proofs.shelf.Tests.{cases-lt}
 use Rattle.std.proofs.shelf.Ways.{tells}
 use Rattle.fleet.specs.Sets.{Set, Within, Workers, sum-below, size}
-use Rattle.fleet.proofs.Sizes.{sum-add, sum-le, sum-indicator}
-use Rattle.policy.specs.Choice.{Choice, Lawful}
-use Rattle.policy.specs.Kinds.{seated, walk, turn, of-class, has-seat}
 use Rattle.fleet.specs.Market.{different}
+use Rattle.fleet.proofs.Sizes.{sum-add, sum-le, sum-indicator}
+use Rattle.policy.specs.Choice.{Lawful}
+use Rattle.policy.specs.Kinds.{seated, walk, turn, of-class, has-seat}
 use Rattle.policy.proofs.Walks.{Orderly, walk-lawful, walk-count}
 
 nobody-counted : (k : ℕ) → sum-below k (λ c. 0) ≡ 0

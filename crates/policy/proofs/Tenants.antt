@@ -1,9 +1,9 @@
 -- The policy of a roster's tenants keeps the laws, and its tenants by number, their count and one more.
-use Prim.Native.Nat.{ℕ, _<_, _≤_}
+use Prim.Native.Nat.{ℕ}
 use native.Mathlib.Omega.{arith}
 use mathlib.Core.Bool.{Bool, true, false, cond}
 use mathlib.Core.List.{List, [], _∷_, _++_, map}
-use mathlib.Core.Path.{_≡_, refl, sym, ap, subst, _∙_, fun-ext}
+use mathlib.Core.Path.{_≡_, refl, sym, ap, subst, _∙_}
 use lib.Dec.{eqb, ltb}
 use lib.ListN.{length}
 use Rattle.std.specs.Finite.{nth}
@@ -13,8 +13,7 @@ use Rattle.std.specs.declared.option.Option.the-variants.{Some, None}
 use Rattle.std.proofs.iter.runs.Lists.{nth-map}
 use Rattle.std.proofs.shelf.Lists.{length-map, map-push}
 use Rattle.std.proofs.shelf.Maps.{nth-past}
-use Rattle.fleet.specs.Sets.{Set, nobody}
-use Rattle.policy.specs.Choice.{Choice, Policy, Lawful, Keeps-laws}
+use Rattle.policy.specs.Choice.{Choice, Lawful, Keeps-laws}
 use Rattle.policy.specs.Kinds.{choice-of, by-number}
 use Rattle.policy.specs.Rosters.{held, adding, added}
 use Rattle.policy.specs.declared.roster.Roster.{Roster}
@@ -33,24 +32,17 @@ module _ {T R : Type 0} (rule : T → R) where
   pub counted : (r : Roster T) → length (held r) ≡ length (map rule (held r))
   counted r = sym (length-map (held r) rule)
 
-  -- a tenant whose caps are in range is answered, and added, as the roster does
+  -- a tenant is answered and added as the roster does
 
-  adding-rules : (ts : List T) → adding true ts ≡ adding true (map rule ts)
+  pub adding-rules : (ts : List T) → adding true ts ≡ adding true (map rule ts)
   adding-rules ts = ap (λ (n : ℕ). cond (ltb n 16) 0 3) (sym (length-map ts rule))
 
-  added-rules : (ts : List T) (t : T) → map rule (added true ts t) ≡ added true (map rule ts) (rule t)
+  pub added-rules : (ts : List T) (t : T) → map rule (added true ts t) ≡ added true (map rule ts) (rule t)
   added-rules ts t = go (eqb (adding true ts) 0) ∙ ap (λ (n : ℕ). cond (eqb n 0) (map rule ts ++ (rule t ∷ [])) (map rule ts)) (adding-rules ts)
     where
       go : (b : Bool) → map rule (cond b (ts ++ (t ∷ [])) ts) ≡ cond b (map rule ts ++ (rule t ∷ [])) (map rule ts)
       go true = map-push rule ts t
       go false = refl
-
-  module _ (in-range : Bool) (i : in-range ≡ true) (ts : List T) where
-    pub tells : (n : ℕ) → n ≡ adding true ts → n ≡ adding in-range (map rule ts)
-    tells n e = e ∙ adding-rules ts ∙ ap (λ (b : Bool). adding b (map rule ts)) (sym i)
-
-    pub leaves : (us : List T) (t : T) → us ≡ added true ts t → map rule us ≡ added in-range (map rule ts) (rule t)
-    leaves us t e = ap (map rule) e ∙ added-rules ts t ∙ ap (λ (b : Bool). added b (map rule ts) (rule t)) (sym i)
 
   module _ (choice : R → Choice) where
     pub roster-keeps : ((t : T) → Lawful (choice (rule t))) → (r : Roster T) → Keeps-laws (length (map rule (held r))) (by-number choice (map rule (held r)))

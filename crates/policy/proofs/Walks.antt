@@ -1,18 +1,17 @@
 -- A walk down a list of different workers is lawful where a larger set never leaves less taken.
 use Prim.Native.Nat.{ℕ, suc, _≤_, _<_}
 use native.Mathlib.Omega.{arith}
-use mathlib.Core.Bool.{Bool, true, false, cond, not, _&&_, _||_}
-use mathlib.Core.Path.{_≡_, refl, sym, ap, _∙_, fun-ext}
+use mathlib.Core.Bool.{Bool, true, false, not}
+use mathlib.Core.Path.{_≡_, refl, ap, _∙_, fun-ext}
 use mathlib.Core.List.{List, [], _∷_}
-use lib.Dec.{eqb}
 use lib.ListN.{length}
-use Rattle.std.proofs.shelf.Tests.{and-parts, eqb-true}
+use Rattle.std.proofs.shelf.Tests.{and-parts}
 use Rattle.std.proofs.shelf.Ways.{tells}
 use Rattle.fleet.specs.Sets.{Set, Within, Workers, among, insert, size}
-use Rattle.fleet.proofs.Sizes.{size-insert}
-use Rattle.policy.specs.Choice.{Choice, Inside, Substitutable, Monotone, Lawful}
-use Rattle.policy.specs.Kinds.{turn, walk}
 use Rattle.fleet.specs.Market.{different}
+use Rattle.fleet.proofs.Sizes.{size-insert}
+use Rattle.policy.specs.Choice.{Inside, Substitutable, Monotone, Lawful}
+use Rattle.policy.specs.Kinds.{turn, walk}
 use Rattle.policy.proofs.Choose.{consistent-from}
 
 -- one more than the others is taken

@@ -1,6 +1,6 @@
 -- What holds of every lawful choice, how many the kinds of policy choose, and what a search finds.
 use Prim.Native.Nat.{ℕ, _<_, min}
-use mathlib.Core.Bool.{Bool, true}
+use mathlib.Core.Bool.{Bool, true, _&&_}
 use mathlib.Core.List.{List}
 use mathlib.Core.Path.{_≡_}
 use lib.ListN.{length, getD}
@@ -10,6 +10,10 @@ use Rattle.fleet.specs.Market.{different}
 use Rattle.policy.specs.Choice.{Choice, Inside, Substitutable, Monotone, Consistent, Lawful}
 use Rattle.policy.specs.Kinds.{ranked, seated, of-class}
 use Rattle.policy.specs.Search.{seek, seek-pair, Least, Least-pair}
+
+-- the members of A that are in B too
+abbrev pub both : Set → Set → Set
+both A B w = A w && B w
 
 -- choosing out of the chosen changes nothing
 abbrev pub Idempotence : Type 0

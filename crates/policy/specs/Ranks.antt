@@ -1,5 +1,4 @@
 -- What a Ranked policy holds.
-use Prim.Native.Nat.{ℕ}
 use mathlib.Core.List.{List, map}
 use Rattle.fleet.specs.Rankings.{listed}
 use Rattle.policy.specs.Kinds.{RankedRule}

@@ -7,6 +7,7 @@ ghost use Rattle.policy.specs.Choice.{Keeps-laws};
 
 pub mod combined;
 pub mod fault;
+mod faults;
 pub mod laws;
 pub mod ranked;
 mod ranked_policy;

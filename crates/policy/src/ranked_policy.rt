@@ -1,7 +1,8 @@
 // How a Ranked policy is made, what it holds, and what its tenants choose.
 ghost use mathlib.Core.Path.{_≡_};
+ghost use mathlib.Core.Bool.{true};
 ghost use mathlib.Core.List.{[]};
-ghost use lib.Dec.{leb};
+ghost use lib.Dec.{leb, ltb};
 ghost use lib.ListN.{length};
 ghost use Rattle.std.specs.Finite.{nth};
 ghost use Rattle.std.specs.Options.{mapped};
@@ -19,6 +20,13 @@ use crate::roster::Roster;
 use fleet::Ranking;
 use fleet::WorkerSet;
 
+/// Is there room for one more?
+fn has_room(taken: u8, cap: u8) -> bool
+    ensures { λ r. ⌜ r ≡ ltb taken «cap» ⌝ }
+{
+    taken < cap
+}
+
 /// The first so many workers of the list that are in the set.
 fn first_of(cap: u8, list: &[u8], of: WorkerSet) -> WorkerSet
     ensures { λ r. ⌜ members r ≡ ranked «cap» (now (list .entry)) (members of) ⌝ }
@@ -26,12 +34,22 @@ fn first_of(cap: u8, list: &[u8], of: WorkerSet) -> WorkerSet
     let mut chosen = WorkerSet::empty();
     let mut taken = 0;
     for worker in list {
-        if taken < cap && of.contains(*worker) {
+        if of.contains(*worker) && has_room(taken, cap) {
             chosen = chosen.with(*worker);
             taken += 1;
         }
     }
     chosen
+}
+
+/// Stands in the places where there is no tenant yet.
+fn no_tenant() -> RankedTenant
+    ensures { λ _. ⌜ Ranked-count ⌝ }
+{
+    RankedTenant {
+        cap: 0,
+        list: Ranking::empty(),
+    }
 }
 
 impl Ranked {
@@ -41,10 +59,7 @@ impl Ranked {
         ensures none { λ r. ⌜ ranks r ≡ [] ⌝ }
         ensures law { λ _. ⌜ Ranked-count ⌝ }
     {
-        let blank = RankedTenant {
-            cap: 0,
-            list: Ranking::empty(),
-        };
+        let blank = no_tenant();
         Ranked {
             tenants: Roster::empty(blank),
         }
@@ -58,14 +73,42 @@ impl Ranked {
         if cap > 64 {
             return Err(PolicyRefusal::Cap);
         }
-        self.tenants.push(RankedTenant { cap, list })
+        self.add(RankedTenant { cap, list })
     }
 
     /// The tenant of this number.
     pub fn tenant(&self, number: u8) -> Option<&RankedTenant>
         ensures { λ r. ⌜ mapped (λ t. rank-rule (now t)) r ≡ nth (ranks (now (self .entry))) number ⌝ }
     {
+        self.find(number)
+    }
+
+    fn len(&self) -> u8
+        ensures { λ r. ⌜ r ≡ length (ranks (now (self .entry))) ⌝ }
+    {
+        self.tenants.len()
+    }
+
+    fn find(&self, number: u8) -> Option<&RankedTenant>
+        ensures { λ r. ⌜ mapped (λ t. rank-rule (now t)) r ≡ nth (ranks (now (self .entry))) number ⌝ }
+    {
         self.tenants.get(number)
+    }
+
+    fn add(&mut self, tenant: RankedTenant) -> Result<(), PolicyRefusal>
+        ensures answer { λ r. ⌜ push-answer r ≡ adding true (ranks (now (self .entry))) ⌝ }
+        ensures after { λ _. ⌜ ranks (now (self .exit)) ≡ added true (ranks (now (self .entry))) (rank-rule tenant) ⌝ }
+    {
+        self.tenants.push(tenant)
+    }
+
+    fn picks(&self, number: u8, of: WorkerSet) -> WorkerSet
+        ensures { λ r. ⌜ members r ≡ ranked-policy (ranks (now (self .entry))) number (members of) ⌝ }
+    {
+        match self.find(number) {
+            Some(found) => first_of(found.cap, found.list.as_slice(), of),
+            None => WorkerSet::empty(),
+        }
     }
 }
 
@@ -91,13 +134,10 @@ pub impl Policy for Ranked as RankedPolicy {
     ghost chosen = { λ p. ranked-policy (ranks p) };
 
     fn count(&self) -> u8 {
-        self.tenants.len()
+        self.len()
     }
 
     fn choose(&self, tenant: u8, of: WorkerSet) -> WorkerSet {
-        match self.tenant(tenant) {
-            Some(found) => first_of(found.cap, found.list.as_slice(), of),
-            None => WorkerSet::empty(),
-        }
+        self.picks(tenant, of)
     }
 }

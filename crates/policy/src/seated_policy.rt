@@ -1,8 +1,8 @@
 // How a Seated policy is made, what it holds, and what its tenants choose.
 ghost use Prim.Native.Nat.{ℕ, _<_};
 ghost use mathlib.Core.Path.{_≡_};
-ghost use mathlib.Core.Bool.{_&&_};
-ghost use lib.Dec.{leb};
+ghost use mathlib.Core.Bool.{true, _&&_};
+ghost use lib.Dec.{leb, ltb};
 ghost use lib.ListN.{length, getD};
 ghost use Rattle.std.specs.Finite.{nth};
 ghost use Rattle.std.specs.Options.{mapped};
@@ -23,7 +23,9 @@ use fleet::WorkerSet;
 
 /// Are all the numbers below the bound?
 fn all_below(bound: u8, numbers: &[u8]) -> bool
-    ensures { λ r. ⌜ r ≡ all-under bound (now (numbers .entry)) ⌝ }
+    requires { ⌜ 0 < bound ⌝ }
+    ensures test { λ r. ⌜ r ≡ all-under bound (now (numbers .entry)) ⌝ }
+    ensures each { λ r. ⌜ (r ≡ true → (i : ℕ) → getD (now (numbers .entry)) i 0 < bound) ⌝ }
 {
     for number in numbers {
         if *number >= bound {
@@ -31,6 +33,21 @@ fn all_below(bound: u8, numbers: &[u8]) -> bool
         }
     }
     true
+}
+
+/// The class of a worker.
+fn class_of(classes: &[u8], worker: u8) -> usize
+    requires { ⌜ length (now classes) ≡ 64 ⌝ ∗ ⌜ worker < 64 ⌝ }
+    ensures { λ r. ⌜ r ≡ getD (now (classes .entry)) worker 0 ⌝ }
+{
+    classes[worker as usize] as usize
+}
+
+/// Is there a seat for one more, among all and in its class?
+fn has_seat(taken: u8, overall: u8, in_class: u8, cap: u8) -> bool
+    ensures { λ r. ⌜ r ≡ (ltb taken overall && ltb «in_class» «cap») ⌝ }
+{
+    taken < overall && in_class < cap
 }
 
 /// The workers of the set that are taken on a walk down the list.
@@ -43,8 +60,8 @@ fn walk_down(classes: &[u8], overall: u8, caps: &[u8], list: &[u8], of: WorkerSe
     let mut by_class = [0; 8];
     for worker in list {
         if of.contains(*worker) {
-            let class = classes[*worker as usize] as usize;
-            if taken < overall && by_class[class] < caps[class] {
+            let class = class_of(classes, *worker);
+            if has_seat(taken, overall, by_class[class], caps[class]) {
                 chosen = chosen.with(*worker);
                 taken += 1;
                 by_class[class] += 1;
@@ -54,7 +71,10 @@ fn walk_down(classes: &[u8], overall: u8, caps: &[u8], list: &[u8], of: WorkerSe
     chosen
 }
 
-fn no_tenant() -> SeatedTenant {
+/// Stands in the places where there is no tenant yet.
+fn no_tenant() -> SeatedTenant
+    ensures { λ _. ⌜ Seated-count ⌝ }
+{
     SeatedTenant {
         overall: 0,
         caps: [0; 8],
@@ -70,10 +90,10 @@ impl Seated {
         ensures answer { λ r. ⌜ new-answer r ≡ making classes ⌝ }
         ensures law { λ _. ⌜ Seated-count ⌝ }
     {
+        let blank = no_tenant();
         if !all_below(8, &classes) {
             return Err(PolicyRefusal::Class);
         }
-        let blank = no_tenant();
         Ok(Seated {
             classes,
             tenants: Roster::empty(blank),
@@ -94,7 +114,7 @@ impl Seated {
         if overall > 64 || !all_below(65, &caps) {
             return Err(PolicyRefusal::Cap);
         }
-        self.tenants.push(SeatedTenant {
+        self.add(SeatedTenant {
             overall,
             caps,
             list,
@@ -112,7 +132,43 @@ impl Seated {
     pub fn tenant(&self, number: u8) -> Option<&SeatedTenant>
         ensures { λ r. ⌜ mapped (λ t. seat-rule (now t)) r ≡ nth (seats (now (self .entry))) number ⌝ }
     {
+        self.find(number)
+    }
+
+    fn len(&self) -> u8
+        ensures { λ r. ⌜ r ≡ length (seats (now (self .entry))) ⌝ }
+    {
+        self.tenants.len()
+    }
+
+    fn find(&self, number: u8) -> Option<&SeatedTenant>
+        ensures { λ r. ⌜ mapped (λ t. seat-rule (now t)) r ≡ nth (seats (now (self .entry))) number ⌝ }
+    {
         self.tenants.get(number)
+    }
+
+    fn add(&mut self, tenant: SeatedTenant) -> Result<(), PolicyRefusal>
+        ensures answer { λ r. ⌜ push-answer r ≡ adding true (seats (now (self .entry))) ⌝ }
+        ensures after { λ _. ⌜ seats (now (self .exit)) ≡ added true (seats (now (self .entry))) (seat-rule tenant) ⌝ }
+        ensures same { λ _. ⌜ now (self .exit) .classes ≡ now (self .entry) .classes ⌝ }
+    {
+        self.tenants.push(tenant)
+    }
+
+    fn picks(&self, number: u8, of: WorkerSet) -> WorkerSet
+        ensures { λ r. ⌜ members r ≡ seated-policy (now (self .entry) .classes) (seats (now (self .entry))) number (members of) ⌝ }
+    {
+        let classes = &self.classes;
+        match self.find(number) {
+            Some(found) => walk_down(
+                classes,
+                found.overall,
+                &found.caps,
+                found.list.as_slice(),
+                of,
+            ),
+            None => WorkerSet::empty(),
+        }
     }
 }
 
@@ -145,19 +201,10 @@ pub impl Policy for Seated as SeatedPolicy {
     ghost chosen = { λ p. seated-policy (p .classes) (seats p) };
 
     fn count(&self) -> u8 {
-        self.tenants.len()
+        self.len()
     }
 
     fn choose(&self, tenant: u8, of: WorkerSet) -> WorkerSet {
-        match self.tenant(tenant) {
-            Some(found) => walk_down(
-                &self.classes,
-                found.overall,
-                &found.caps,
-                found.list.as_slice(),
-                of,
-            ),
-            None => WorkerSet::empty(),
-        }
+        self.picks(tenant, of)
     }
 }

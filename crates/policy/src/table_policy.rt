@@ -11,6 +11,7 @@ ghost use Rattle.fleet.specs.Market.{different};
 ghost use Rattle.fleet.specs.Members.{members};
 ghost use Rattle.fleet.specs.Rankings.{listed};
 ghost use Rattle.policy.specs.Tables.{index-of, named-by, table-choice, table-policy};
+ghost use Rattle.policy.specs.Faults.{table-fault};
 ghost use Rattle.policy.specs.Rosters.{push-answer, adding, added};
 ghost use Rattle.policy.specs.Laws.{Search-least};
 ghost use Rattle.policy.specs.Entries.{table-rule, tables, new-answer, making};
@@ -60,6 +61,21 @@ fn padded(entries: &[u8]) -> [u8; 256]
     all
 }
 
+/// The first fault of a table of these workers and entries.
+fn table_fault(workers: &Ranking<64>, entries: &[u8]) -> Option<TableFault>
+    ensures fault { λ r. ⌜ r ≡ table-fault (listed (now (workers .entry))) (now (entries .entry)) ⌝ }
+    ensures law { λ _. ⌜ Search-least ⌝ }
+{
+    if workers.len() > 8 {
+        return Some(TableFault::Workers);
+    }
+    if entries.len() != 1 << workers.len() {
+        return Some(TableFault::Entries);
+    }
+    entries_fault(entries)
+}
+
+/// Stands in the places where there is no tenant yet.
 fn no_tenant() -> TableTenant {
     TableTenant {
         workers: Ranking::empty(),
@@ -75,13 +91,7 @@ impl TableTenant {
         ensures answer { λ r. ⌜ new-answer r ≡ making (listed workers) (now (entries .entry)) ⌝ }
         ensures law { λ _. ⌜ Search-least ⌝ }
     {
-        if workers.len() > 8 {
-            return Err(TableFault::Workers);
-        }
-        if entries.len() != 1 << workers.len() {
-            return Err(TableFault::Entries);
-        }
-        match entries_fault(entries) {
+        match table_fault(&workers, entries) {
             Some(fault) => Err(fault),
             None => Ok(TableTenant {
                 workers,
@@ -130,14 +140,42 @@ impl Table {
         ensures answer { λ r. ⌜ push-answer r ≡ adding true (tables (now (self .entry))) ⌝ }
         ensures after { λ _. ⌜ tables (now (self .exit)) ≡ added true (tables (now (self .entry))) (table-rule tenant) ⌝ }
     {
-        self.tenants.push(tenant)
+        self.add(tenant)
     }
 
     /// The tenant of this number.
     pub fn tenant(&self, number: u8) -> Option<&TableTenant>
         ensures { λ r. ⌜ mapped (λ t. table-rule (now t)) r ≡ nth (tables (now (self .entry))) number ⌝ }
     {
+        self.find(number)
+    }
+
+    fn len(&self) -> u8
+        ensures { λ r. ⌜ r ≡ length (tables (now (self .entry))) ⌝ }
+    {
+        self.tenants.len()
+    }
+
+    fn find(&self, number: u8) -> Option<&TableTenant>
+        ensures { λ r. ⌜ mapped (λ t. table-rule (now t)) r ≡ nth (tables (now (self .entry))) number ⌝ }
+    {
         self.tenants.get(number)
+    }
+
+    fn add(&mut self, tenant: TableTenant) -> Result<(), PolicyRefusal>
+        ensures answer { λ r. ⌜ push-answer r ≡ adding true (tables (now (self .entry))) ⌝ }
+        ensures after { λ _. ⌜ tables (now (self .exit)) ≡ added true (tables (now (self .entry))) (table-rule tenant) ⌝ }
+    {
+        self.tenants.push(tenant)
+    }
+
+    fn picks(&self, number: u8, of: WorkerSet) -> WorkerSet
+        ensures { λ r. ⌜ members r ≡ table-policy (tables (now (self .entry))) number (members of) ⌝ }
+    {
+        match self.find(number) {
+            Some(found) => found.choose(of),
+            None => WorkerSet::empty(),
+        }
     }
 }
 
@@ -147,13 +185,10 @@ pub impl Policy for Table as TablePolicy {
     ghost chosen = { λ p. table-policy (tables p) };
 
     fn count(&self) -> u8 {
-        self.tenants.len()
+        self.len()
     }
 
     fn choose(&self, tenant: u8, of: WorkerSet) -> WorkerSet {
-        match self.tenant(tenant) {
-            Some(found) => found.choose(of),
-            None => WorkerSet::empty(),
-        }
+        self.picks(tenant, of)
     }
 }

@@ -37,7 +37,7 @@ module _ (m : Market) (classes : List ℕ) (w class : ℕ) (list : List ℕ) whe
   pub rows-more : w < length classes → rows-of (with-list m w list) (set classes w class) (w + 1) ≡ rows-of m classes w ++ (record { class = class; list = list } ∷ [])
   rows-more h = rw (add-one, rows-kept w (omega arith), getD-set-same classes w class 0 h, eq-eqb w w refl)
 
--- the draft after one worker more
+-- what is read after one worker more
 abbrev pub after-worker : List ℕ → Progress → Worker-row → Progress
 after-worker bytes d r = record { place = place-after bytes (d .place); lowest = d .lowest; text = add-worker (d .text) r }
 

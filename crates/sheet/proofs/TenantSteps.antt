@@ -34,7 +34,7 @@ use Rattle.sheet.proofs.DueRows.{list-wider}
 use Rattle.sheet.proofs.Passing.{Passes}
 
 module _ (n t : ℕ) (size : Size) (bytes : List ℕ) (d : Progress) where
-  -- the draft after a tenant of this kind
+  -- what is read after a tenant of this kind
   abbrev after : Kind → Sheet-text → Progress
   after k s = record { place = place-after bytes (d .place); lowest = tag-of k; text = s }
 

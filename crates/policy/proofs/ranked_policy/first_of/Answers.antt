@@ -1,20 +1,18 @@
 -- A turn of the loop is a turn of the walk, and the walk takes the first so many.
 use mathlib.Core.Bool.{Bool, true}
-use mathlib.Core.List.{List}
 use mathlib.Core.Path.{_≡_, sym, ap, _∙_}
 use Prim.Native.Nat.{ℕ}
-use native.Mathlib.Omega.{arith}
 use lib.Dec.{ltb}
-use lib.ListN.{length, getD}
-use Rattle.std.proofs.shelf.Tests.{lt-ltb, le-ltb, and-left, and-right}
-use Rattle.fleet.specs.Sets.{Set, among}
+use lib.ListN.{getD}
+use Rattle.std.proofs.shelf.Tests.{and-left, and-right}
+use Rattle.fleet.specs.Sets.{among}
 use Rattle.fleet.specs.Members.{members}
 use Rattle.fleet.proofs.Same.{members-workers}
 use Rattle.policy.specs.Choice.{Choice}
 use Rattle.policy.proofs.Ranks.{below, ranked-walk}
 use Rattle.policy.proofs.Turns.{walked, walked-all, joins, passes}
 use Rattle.policy.proofs.ranked_policy.first_of.Needs as need
-use Rattle.policy.proofs.ranked_policy.first_of.Needs.{then-taken-cap·then-contains, else-taken-cap, else-taken-cap·by·then-taken-cap·else-contains, else-taken-cap·by·else-taken-cap}
+use Rattle.policy.proofs.ranked_policy.first_of.Needs.{then-contains·then-has-room, else-contains, else-contains·by·then-contains·else-has-room, else-contains·by·else-contains}
 
 pub loop-worker-again : need.loop-worker-again
 loop-worker-again c =
@@ -22,21 +20,21 @@ loop-worker-again c =
     let Z = members (c .args .of) in
     let i = c .loop-worker .worker-index in
     let w = getD l i 0 in
-    let room = below (c .args .cap) in
-    let T = walked room Z l i in
-    let n = c .loop-worker .taken in
+    let cap = c .args .cap in
+    let room = below cap (walked (below cap) Z l i) w in
     let h = c .loop-worker-test .taken in
     let inv = c .loop-worker .inv in
-    elim (c .if-taken-cap .came) [
-      | then-taken-cap·then-contains v ↦
+    let free : room ≡ ltb (c .loop-worker .taken) cap = ap (λ (n : ℕ). ltb n cap) (sym (inv .1)) in
+    elim (c .if-contains .came) [
+      | then-contains·then-has-room v ↦
           let z : Z w ≡ true = sym (v .if-contains .ensures tt) in
-          joins room Z l i h _ _ n _ inv (members-workers (c .args .of) w z) z (lt-ltb (length T) (c .args .cap) (omega (arith, v .if-taken-cap .taken)))
+          joins (below cap) Z l i h _ _ (c .loop-worker .taken) _ inv (members-workers (c .args .of) w z) z (free ∙ sym (v .if-has-room .ensures tt))
           (ap members (v .chosen-is) ∙ v .with-chosen .ensures) (v .taken-is)
-      | else-taken-cap v ↦
-          passes room Z l i h _ _ n _ inv
-          (elim (v .else-taken-cap .came) [
-            | else-taken-cap·by·then-taken-cap·else-contains u ↦ and-left (Z w) (ltb (length T) (c .args .cap)) (sym (u .if-contains .ensures tt))
-            | else-taken-cap·by·else-taken-cap u ↦ and-right (Z w) (ltb (length T) (c .args .cap)) (le-ltb (length T) (c .args .cap) (omega (arith, u .if-taken-cap .left)))
+      | else-contains v ↦
+          passes (below cap) Z l i h _ _ (c .loop-worker .taken) _ inv
+          (elim (v .else-contains .came) [
+            | else-contains·by·then-contains·else-has-room u ↦ and-right (Z w) room (free ∙ sym (u .if-has-room .ensures tt))
+            | else-contains·by·else-contains u ↦ and-left (Z w) room (sym (u .if-contains .ensures tt))
           ])
           (ap members (v .chosen-is)) (v .taken-is)
     ]

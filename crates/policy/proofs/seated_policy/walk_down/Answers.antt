@@ -1,19 +1,20 @@
 -- A turn of the loop is a turn of the walk.
 use Prim.Native.Nat.{ℕ}
-use native.Mathlib.Omega.{arith}
-use mathlib.Core.Bool.{true}
+use mathlib.Core.Bool.{Bool, true, _&&_}
+use mathlib.Core.List.{List}
 use mathlib.Core.Path.{_≡_, sym, ap, _∙_}
-use lib.ListN.{getD}
+use Prim.Native.Nat.{_+_}
+use lib.Dec.{ltb}
+use lib.ListN.{getD, set}
+use Rattle.std.proofs.shelf.Tests.{and-left, and-right}
 use Rattle.fleet.specs.Members.{members}
 use Rattle.fleet.proofs.Same.{members-workers}
-use Rattle.policy.proofs.Seating.{Seating, seats-one, seats-none, absent, full, class-full, seated-all}
+use Rattle.policy.proofs.Seating.{seat-is, seats-one, seats-none, seated-all}
 use Rattle.policy.proofs.seated_policy.walk_down.Needs as need
-use Rattle.policy.proofs.seated_policy.walk_down.Needs.{then-contains·then-taken-overall·then-by-class-class, then-contains·else-taken-overall, else-taken-overall·by·then-taken-overall·else-by-class-class, else-taken-overall·by·else-taken-overall, else-contains}
+use Rattle.policy.proofs.seated_policy.walk_down.Needs.{then-contains·then-has-seat, then-contains·else-has-seat, else-contains}
 
-pub index-classes-worker : need.index-classes-worker
-index-classes-worker c =
-    let w = getD (c .args .list .now) (c .loop-worker .worker-index) 0 in
-    omega (arith, members-workers (c .args .of) w (sym (c .if-contains .ensures tt)), c .pre .0)
+pub class-of-class-requires : need.class-of-class-requires
+class-of-class-requires c κs = (c .pre .0, members-workers (c .args .of) _ (sym (c .if-contains .ensures tt)))
 
 pub loop-worker-again : need.loop-worker-again
 loop-worker-again c =
@@ -29,20 +30,22 @@ loop-worker-again c =
     let counts = c .loop-worker .by-class in
     let inv = c .loop-worker .inv in
     let h = c .loop-worker-test .taken in
+    let known = c .pre .1 .1 w in
+    let seat = seat-is classes overall caps Z l i A n counts inv h known in
+    let by-class = λ (k : ℕ). ltb n overall && ltb (getD counts k 0) (getD caps k 0) in
     elim (c .if-contains .came) [
-      | then-contains·then-taken-overall·then-by-class-class v ↦
+      | then-contains·then-has-seat v ↦
           let z : Z w ≡ true = sym (v .if-contains .ensures tt) in
-          seats-one classes overall caps Z l i A n counts inv h _ _ _ (members-workers (c .args .of) w z) (c .pre .1 .1 w) z (v .if-taken-overall .taken) (v .if-by-class-class .taken)
-          (ap members (v .chosen-is) ∙ v .with-chosen .ensures) (v .taken-is) (v .by-class-is)
-      | then-contains·else-taken-overall v ↦
+          let class = v .class-of-class .ensures in
+          seats-one classes overall caps Z l i A n counts inv h _ _ _ (members-workers (c .args .of) w z) known z
+          (seat ∙ sym (v .if-has-seat .ensures tt ∙ ap by-class class))
+          (ap members (v .chosen-is) ∙ v .with-chosen .ensures) (v .taken-is) (v .by-class-is ∙ ap (λ (k : ℕ). set counts k (getD counts k 0 + 1)) class)
+      | then-contains·else-has-seat v ↦
           seats-none classes overall caps Z l i A n counts inv h _ _ _
-          (elim (v .else-taken-overall .came) [
-            | else-taken-overall·by·then-taken-overall·else-by-class-class u ↦ class-full classes overall caps Z l i A n counts inv h (c .pre .1 .1 w) (u .if-by-class-class .left)
-            | else-taken-overall·by·else-taken-overall u ↦ full classes overall caps Z l i A n counts inv h (u .if-taken-overall .left)
-          ])
+          (and-right (Z w) _ (seat ∙ sym (v .if-has-seat .ensures tt ∙ ap by-class (v .class-of-class .ensures))))
           (ap members (v .chosen-is)) (v .taken-is) (v .by-class-is)
       | else-contains v ↦
-          seats-none classes overall caps Z l i A n counts inv h _ _ _ (absent classes overall caps Z l i A n counts inv h (sym (v .if-contains .ensures tt)))
+          seats-none classes overall caps Z l i A n counts inv h _ _ _ (and-left (Z w) _ (sym (v .if-contains .ensures tt)))
           (ap members (v .chosen-is)) (v .taken-is) (v .by-class-is)
     ]
 

@@ -1,6 +1,6 @@
 -- The entry at the index of the set names the chosen.
 use mathlib.Core.List.{List}
-use mathlib.Core.Path.{_≡_, ap, ap₂, sym, _∙_}
+use mathlib.Core.Path.{ap, ap₂, sym, _∙_}
 use Prim.Native.Nat.{ℕ, _^_}
 use native.Mathlib.Omega.{arith}
 use lib.ListN.{length, getD}
@@ -8,7 +8,7 @@ use Rattle.std.proofs.shelf.Lists.{getD-take}
 use Rattle.fleet.specs.Members.{members}
 use Rattle.fleet.specs.Rankings.{listed}
 use Rattle.policy.specs.Tables.{index-of, named-by}
-use Rattle.policy.proofs.Entries.{index-below}
+use Rattle.policy.proofs.Indices.{index-below}
 use Rattle.policy.proofs.Naming.{index-small}
 use Rattle.policy.proofs.table.TableTenant.choose.Needs as need
 
