@@ -1,4 +1,9 @@
 // Small policies, and what they choose.
+use fleet::Ranking;
+use fleet::Refusal;
+use fleet::RefusalDebug;
+use fleet::WorkerSet;
+use fleet::WorkerSetPartialEq;
 use policy::Pair;
 use policy::PairPolicy;
 use policy::Policy;
@@ -15,11 +20,6 @@ use policy::TableFaultPartialEq;
 use policy::TableLaw;
 use policy::TableTenant;
 use policy::workers_of;
-use fleet::Ranking;
-use fleet::Refusal;
-use fleet::RefusalDebug;
-use fleet::WorkerSet;
-use fleet::WorkerSetPartialEq;
 use std::test::*;
 
 fn ranking(workers: &[u8]) -> Result<Ranking<64>, Refusal> {

@@ -1,6 +1,13 @@
 // What the bytes of a sheet come to, and how that is printed.
 ghost use mathlib.Core.Path.{_≡_};
-ghost use Rattle.report.specs.Outcomes.{outcome-of};
+ghost use Rattle.sheet.specs.Says.{text};
+ghost use Rattle.report.specs.Outcomes.{outcome-of, settled-text};
+use matching::settle;
+use policy::PairPolicy;
+use policy::QuarantinePolicy;
+use policy::RankedPolicy;
+use policy::SeatedPolicy;
+use policy::TablePolicy;
 use sheet::faults::Report;
 use sheet::sheet::Sheet;
 use std::fmt;
@@ -15,8 +22,27 @@ pub enum Outcome {
     TooLong,
     /// It is no sheet, for this fault.
     Faulty(Report),
-    /// It is a sheet with so many workers and tenants.
-    Good { workers: u8, tenants: u8 },
+    /// It is a sheet of so many workers, which settles in so many rounds with each worker at its place.
+    Settled {
+        workers: u8,
+        rounds: u16,
+        places: [u8; 64],
+    },
+}
+
+/// How a sheet settles.
+fn settled(sheet: &Sheet) -> Outcome
+    ensures { λ r. ⌜ r ≡ settled-text (text (now (sheet .entry))) ⌝ }
+{
+    let lists = sheet.lists();
+    let policy = sheet.policy();
+    let found = settle(&lists, &policy);
+    let places = found.placement.places;
+    Outcome::Settled {
+        workers: lists.workers(),
+        rounds: found.rounds,
+        places,
+    }
 }
 
 impl Outcome {
@@ -30,13 +56,7 @@ impl Outcome {
         let mut sheet = Sheet::blank();
         match sheet.read(bytes) {
             Err(fault) => Outcome::Faulty(fault.report()),
-            Ok(()) => {
-                let lists = sheet.lists();
-                Outcome::Good {
-                    workers: lists.workers(),
-                    tenants: lists.tenants(),
-                }
-            }
+            Ok(()) => settled(&sheet),
         }
     }
 }
@@ -56,7 +76,22 @@ pub impl fmt::Display for Outcome as OutcomeDisplay {
                     "fault {number} at {at} layer {layer} sets {outer} {inner}"
                 )
             }
-            Outcome::Good { workers, tenants } => write!(f, "workers {workers}\ntenants {tenants}"),
+            Outcome::Settled {
+                workers,
+                rounds,
+                places,
+            } => {
+                write!(f, "rounds {rounds}")?;
+                for (worker, place) in places.iter().take(*workers as usize).enumerate() {
+                    let tenant = *place;
+                    if tenant == 255 {
+                        write!(f, "\nworker {worker} none")?;
+                    } else {
+                        write!(f, "\nworker {worker} tenant {tenant}")?;
+                    }
+                }
+                Ok(())
+            }
         }
     }
 }

@@ -5,7 +5,7 @@ use mathlib.Core.Bool.{true, false, not}
 use mathlib.Core.Path.{_≡_, refl, sym}
 use mathlib.Core.List.{List, [], _∷_}
 use lib.Dec.{eqb, ltb}
-use lib.ListN.{length, getD, set, take}
+use lib.ListN.{length, getD, set, take, replicate}
 use Rattle.std.proofs.shelf.Lists.{take-more}
 use Rattle.std.proofs.shelf.Tests.{and-parts, and-from, or-from, not-true, both-ways, ne-eqb, lt-ltb}
 use Rattle.fleet.specs.Sets.{among, all-under}
@@ -38,3 +38,9 @@ pub under-set : (n : ℕ) (l : List ℕ) (i v : ℕ) → all-under n l ≡ true 
 under-set n [] i v h k = refl
 under-set n (x ∷ xs) zero v h k = and-from (ltb v n) (all-under n xs) (lt-ltb v n k) (and-parts (ltb x n) (all-under n xs) h .1)
 under-set n (x ∷ xs) (suc i) v h k = let p = and-parts (ltb x n) (all-under n xs) h in and-from (ltb x n) (all-under n (set xs i v)) (p .0) (under-set n xs i v (p .1) k)
+
+-- a list of zeros has only zeros
+pub zeros : (n w : ℕ) → getD {A = ℕ} (replicate n 0) w 0 ≡ 0
+zeros zero w = refl
+zeros (suc n) zero = refl
+zeros (suc n) (suc w) = zeros n w

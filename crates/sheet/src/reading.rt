@@ -115,6 +115,7 @@ fn read_workers(reader: &mut Reader<'_>, size: Size) -> Result<(Lists, [u8; 64])
     ensures value { λ r. ⌜ crew-progress r (now (reader .exit) .place) ≡ read-workers (size .workers) size (input (now (reader .entry))) (record { place = now (reader .entry) .place; lowest = 3; text = no-text }) ⌝ }
     ensures input { λ r. ⌜ input (now (reader .exit)) ≡ input (now (reader .entry)) ⌝ }
     ensures classes { λ r. ⌜ made r (λ crew. all-under 8 (crew .1) ≡ true) ⌝ }
+    ensures idle { λ r. ⌜ made r (λ crew. (w : ℕ) → size .workers ≤ w → getD (crew .1) w 0 ≡ 0) ⌝ }
     ensures counts { λ r. ⌜ made r (λ crew. (market (crew .0) .workers ≡ size .workers) × (market (crew .0) .tenants ≡ size .tenants)) ⌝ }
 {
     let mut classes = [0; 64];
@@ -186,6 +187,7 @@ fn read_people(reader: &mut Reader<'_>) -> Result<(Size, Lists, Tenants), SheetF
     ensures value { λ r. ⌜ People (input (now (reader .entry))) r (now (reader .exit) .place) ⌝ }
     ensures input { λ r. ⌜ input (now (reader .exit)) ≡ input (now (reader .entry)) ⌝ }
     ensures few { λ r. ⌜ made r (λ p. p .0 .workers ≤ 64) ⌝ }
+    ensures idle { λ r. ⌜ made r (λ p. (w : ℕ) → p .1 .workers ≤ w → getD (p .2 .seated .classes) w 0 ≡ 0) ⌝ }
     ensures counts { λ r. ⌜ made r (λ p. p .1 .tenants ≡ length (ranks (p .2 .ranked)) + length (seats (p .2 .seated)) + length (tables (p .2 .tables))) ⌝ }
 {
     let size = read_size(reader)?;
@@ -198,6 +200,7 @@ fn read_people(reader: &mut Reader<'_>) -> Result<(Size, Lists, Tenants), SheetF
 pub(crate) fn read_parts(bytes: &[u8]) -> Result<(Lists, Tenants, Ranking<64>), SheetFault>
     ensures value { λ r. ⌜ parts-told r ≡ decode (now (bytes .entry)) ⌝ }
     ensures counts { λ r. ⌜ made r (λ p. p .0 .tenants ≡ tenants-in (text-of (p .0) (p .1) (p .2))) ⌝ }
+    ensures idle { λ r. ⌜ made r (λ p. (w : ℕ) → p .0 .workers ≤ w → getD (p .1 .seated .classes) w 0 ≡ 0) ⌝ }
 {
     let mut reader = Reader::new(bytes);
     let (size, lists, tenants) = read_people(&mut reader)?;

@@ -12,7 +12,7 @@ ghost use Rattle.policy.specs.Ranks.{ranks};
 ghost use Rattle.policy.specs.Seats.{seats};
 ghost use Rattle.policy.specs.Entries.{tables};
 ghost use Rattle.sheet.specs.Reading.{decode};
-ghost use Rattle.sheet.specs.Says.{text, one-worker-text, classes-of, market-said, read-told, sheet-told};
+ghost use Rattle.sheet.specs.Says.{text, one-worker-text, market-said, policy-of, policy-said, read-told, sheet-told};
 ghost use Rattle.sheet.specs.Laws.{Reads-exactly, Written-law};
 ghost use Rattle.sheet.specs.Sheets.{encode};
 ghost use Rattle.sheet.specs.Writes.{write-told, write-answer, written-over};
@@ -61,6 +61,12 @@ fn read_sheet(bytes: &[u8]) -> Result<Sheet, SheetFault>
 // A lemma: the lists of a sheet are those that it says.
 fn lists_are_said(sheet: &Sheet)
     ensures { λ _. ⌜ market (now (sheet .entry) .lists) ≡ market-said (text (now (sheet .entry))) ⌝ }
+{}
+
+// A lemma: the tenants of a sheet, with its quarantine held back, are the policy that it says.
+fn policy_is_said(sheet: &Sheet, held: WorkerSet)
+    requires { ⌜ members held ≡ among (listed (now sheet .quarantine)) ⌝ }
+    ensures { λ _. ⌜ policy-of (members held) (now (sheet .entry) .tenants .ranked) (now (sheet .entry) .tenants .seated) (now (sheet .entry) .tenants .tables) ≡ policy-said (text (now (sheet .entry))) ⌝ }
 {}
 
 /// The tenants of a sheet with one ranked tenant of this cap, whose list is empty.
@@ -145,28 +151,23 @@ impl Sheet {
 
     /// The policy of the tenants: the ranked ones first, then the seated ones, then the tables, and nobody of the quarantine is put to them.
     pub fn policy(&self) -> Quarantine<Pair<Ranked, Pair<Seated, Table>>>
-        ensures quarantine { λ r. ⌜ members (r .held) ≡ among (text (now (self .entry)) .quarantine) ⌝ }
-        ensures ranked { λ r. ⌜ ranks (r .below .first) ≡ text (now (self .entry)) .ranked ⌝ }
-        ensures seated { λ r. ⌜ seats (r .below .second .first) ≡ text (now (self .entry)) .seated ⌝ }
-        ensures classes { λ r. ⌜ r .below .second .first .classes ≡ classes-of (now (self .entry)) ⌝ }
-        ensures tables { λ r. ⌜ tables (r .below .second .second) ≡ text (now (self .entry)) .tables ⌝ }
+        ensures { λ r. ⌜ policy-of (members (r .held)) (r .below .first) (r .below .second .first) (r .below .second .second) ≡ policy-said (text (now (self .entry))) ⌝ }
     {
+        let held = set_of(&self.quarantine);
+        policy_is_said(self, held);
         let Tenants {
             ranked,
             seated,
             tables,
         } = self.tenants;
-        let tenants = Pair {
+        let kinds = Pair {
             first: ranked,
             second: Pair {
                 first: seated,
                 second: tables,
             },
         };
-        Quarantine {
-            held: set_of(&self.quarantine),
-            below: tenants,
-        }
+        Quarantine { held, below: kinds }
     }
 
     /// Writes the sheet in front of a buffer, and answers how many bytes it has, at most 5,624. Into a shorter buffer nothing is written.

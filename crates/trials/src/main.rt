@@ -1,8 +1,16 @@
-// Reads inputs, one to a line as pairs of hexadecimal digits, and prints what each comes to.
+// Reads cases, one to a line as pairs of hexadecimal digits, and prints what each comes to: an input of the program `place`, or a
+// sheet and, behind a space, a placement of 64 bytes to be checked.
 ghost use Prim.Native.Nat.{_<_};
 ghost use Rattle.std.specs.Vec.{made};
+use matching::check;
+use policy::PairPolicy;
+use policy::QuarantinePolicy;
+use policy::RankedPolicy;
+use policy::SeatedPolicy;
+use policy::TablePolicy;
 use report::Outcome;
 use report::OutcomeDisplay;
+use sheet::sheet::Sheet;
 use std::alloc::Global;
 use std::error::AnyError;
 use std::io::BufRead;
@@ -19,11 +27,10 @@ fn digit(byte: u8) -> Result<u8, AnyError>
     }
 }
 
-/// The bytes that a line of hexadecimal digits says.
-fn bytes_of(heap: Global, line: &str) -> Result<Vec<u8>, AnyError> {
-    let digits = line.as_bytes();
+/// The bytes that hexadecimal digits say.
+fn bytes_of(heap: Global, digits: &str) -> Result<Vec<u8>, AnyError> {
     let mut bytes = Vec::new(heap);
-    for pair in digits.chunks(2) {
+    for pair in digits.as_bytes().chunks(2) {
         if pair.len() != 2 {
             return Err("half a byte".into());
         }
@@ -32,12 +39,40 @@ fn bytes_of(heap: Global, line: &str) -> Result<Vec<u8>, AnyError> {
     Ok(bytes)
 }
 
+/// The verdict on a placement, or none where the sheet or the placement cannot be read.
+fn verdict(bytes: &[u8], placed: &[u8]) -> Option<(u8, u8, u8)> {
+    let mut sheet = Sheet::blank();
+    if sheet.read(bytes).is_err() || placed.len() != 64 {
+        return None;
+    }
+    let mut places = [255; 64];
+    places.copy_from_slice(placed);
+    let lists = sheet.lists();
+    let policy = sheet.policy();
+    Some(check(&lists, &policy, &places))
+}
+
+/// One case.
+fn try_case(rt: &LibcRuntime, line: &str) -> Result<(), AnyError> {
+    let Some((sheet, placed)) = line.split_once(' ') else {
+        let bytes = bytes_of(rt.alloc(), line)?;
+        let outcome = Outcome::of(bytes.as_slice());
+        return Ok(println!(rt, "{outcome}")?);
+    };
+    let bytes = bytes_of(rt.alloc(), sheet)?;
+    let places = bytes_of(rt.alloc(), placed)?;
+    match verdict(bytes.as_slice(), places.as_slice()) {
+        Some((number, worker, tenant)) => println!(rt, "{number} {worker} {tenant}")?,
+        None => println!(rt, "no verdict")?,
+    }
+    Ok(())
+}
+
 fn main(rt: LibcRuntime) -> Result<(), AnyError> {
     let mut number = 0u64;
     for line in BufReader::new(rt.stdin()).lines(rt.alloc()) {
-        let bytes = bytes_of(rt.alloc(), line?.as_str())?;
-        let outcome = Outcome::of(bytes.as_slice());
-        println!(rt, "case {number}\n{outcome}")?;
+        println!(rt, "case {number}")?;
+        try_case(&rt, line?.as_str())?;
         number = number.saturating_add(1);
     }
     Ok(())

@@ -24,7 +24,7 @@ returns-in-Break-quarantine c =
     ap decode (sym first) ∙ c .in-Continue-size .ensures tt .value ∙ ap (λ (b : List ℕ). after-tenants b size text place) first in
     let due = ap (λ (b : List ℕ). quarantine-due size b place) (sym (c .in-Continue-size .ensures tt .input ∙ first)) ∙ sym (c .in-Break-quarantine .ensures tt .value) in
     let p = err-from-errBy (c .from-residual-in-Break-quarantine .result) (c .from-residual-in-Break-quarantine .ensures .1) in
-    rw (p .1, p .2) (record { value = sym (people ∙ quarantine-fault bytes size text place _ due); counts = tt })
+    rw (p .1, p .2) (record { value = sym (people ∙ quarantine-fault bytes size text place _ due); counts = tt; idle = tt })
 
 pub returns-in-Break-read-end : need.returns-in-Break-read-end
 returns-in-Break-read-end c =
@@ -44,7 +44,7 @@ returns-in-Break-read-end c =
     let next = c .in-Continue-quarantine .ensures tt .place ∙ ap (λ (b : List ℕ). place-after b place) second in
     let over = ap₂ end-due (sym third) (sym next) ∙ sym (c .in-Break-read-end .ensures tt) in
     let p = err-from-errBy (c .from-residual-in-Break-read-end .result) (c .from-residual-in-Break-read-end .ensures .1) in
-    rw (p .1, p .2) (record { value = sym (people ∙ quarantine-read bytes size text place q due ∙ end-fault bytes (place-after bytes place) (with-quarantine text q) _ over); counts = tt })
+    rw (p .1, p .2) (record { value = sym (people ∙ quarantine-read bytes size text place q due ∙ end-fault bytes (place-after bytes place) (with-quarantine text q) _ over); counts = tt; idle = tt })
 
 pub returns : need.returns
 returns c =
@@ -63,4 +63,4 @@ returns c =
     let due = ap (λ (b : List ℕ). quarantine-due size b place) (sym second) ∙ sym (c .in-Continue-quarantine .ensures tt .value) in
     let next = c .in-Continue-quarantine .ensures tt .place ∙ ap (λ (b : List ℕ). place-after b place) second in
     let over = ap₂ end-due (sym third) (sym next) ∙ sym (c .in-Continue-read-end .ensures tt) in
-    record { value = sym (people ∙ quarantine-read bytes size text place q due ∙ end-read bytes (place-after bytes place) (with-quarantine text q) over); counts = c .in-Continue-size .ensures tt .counts }
+    record { value = sym (people ∙ quarantine-read bytes size text place q due ∙ end-read bytes (place-after bytes place) (with-quarantine text q) over); counts = c .in-Continue-size .ensures tt .counts; idle = c .in-Continue-size .ensures tt .idle }

@@ -1,5 +1,7 @@
 -- The counts, the workers and the tenants are read, and the first fault is the sheet's.
 use Prim.Native.Nat.{ℕ}
+use native.Mathlib.Omega.{arith}
+use lib.ListN.{getD}
 use mathlib.Core.List.{List}
 use mathlib.Core.Path.{_≡_, refl, sym, ap, _∙_}
 use Rattle.std.proofs.shelf.Results.{err-from-errBy}
@@ -28,6 +30,7 @@ returns c =
       value = whole ∙ ap (λ (k : List ℕ). after-tenants bytes size (tenants-text (rows-of (market lists) k (lists .workers)) tenants) place) (sym (c .in-Continue-tenants .ensures tt .classes));
       input = c .in-Continue-tenants .ensures tt .input ∙ c .in-Continue-lists .ensures tt .input ∙ c .in-Continue-size .ensures tt .input;
       few = c .in-Continue-size .ensures tt .range .1;
+      idle = λ w h. ap (λ (k : List ℕ). getD k w 0) (c .in-Continue-tenants .ensures tt .classes) ∙ c .in-Continue-lists .ensures tt .idle w (omega (arith, c .in-Continue-lists .ensures tt .counts .0));
       counts = c .in-Continue-lists .ensures tt .counts .1 ∙ sym (c .in-Continue-tenants .ensures tt .counts);
     }
 
@@ -36,4 +39,4 @@ returns-in-Break-size c =
     let reader = c .args .reader .now in
     let p = err-from-errBy (c .from-residual .result) (c .from-residual .ensures .1) in
     let due = ap (λ (at : ℕ). size-due (input reader) at) (sym (c .pre)) ∙ sym (c .in-Break-size .ensures tt .value) in
-    rw (p .1, p .2) (record { value = size-fault (input reader) _ due; input = c .in-Break-size .ensures tt .input; few = tt; counts = tt })
+    rw (p .1, p .2) (record { value = size-fault (input reader) _ due; input = c .in-Break-size .ensures tt .input; few = tt; idle = tt; counts = tt })

@@ -1,11 +1,14 @@
 -- One worker more, or its fault.
+use borrow.Author.Needs.{needs}
 use Prim.Native.Nat.{ℕ, _+_, _-_, _<_}
 use native.Mathlib.Omega.{arith}
 use mathlib.Core.Bool.{true}
-use mathlib.Core.Path.{_≡_, sym, ap, ap₂, _∙_}
+use mathlib.Core.Logic.{_≢_}
+use mathlib.Core.Path.{_≡_, refl, sym, ap, ap₂, _∙_}
 use mathlib.Core.List.{List}
 use lib.Dec.{ltb}
 use lib.ListN.{length, set, length-set}
+use Rattle.std.proofs.shelf.Lists.{getD-set-other}
 use Rattle.std.proofs.shelf.Results.{err-from-errBy}
 use Rattle.std.proofs.shelf.Tests.{and-parts, ltb-true}
 use Rattle.std.specs.declared.result.Result.the-variants.{Ok, Err}
@@ -16,7 +19,7 @@ use Rattle.fleet.specs.Rankings.{listed}
 use Rattle.sheet.specs.Framing.{input, place-after}
 use Rattle.sheet.specs.Sheets.{Worker-row, is-list}
 use Rattle.sheet.specs.Reading.{worker-due, read-workers, crew-text, crew-progress}
-use Rattle.sheet.proofs.Lists.{under-set}
+use Rattle.sheet.proofs.Lists.{under-set, zeros}
 use Rattle.sheet.proofs.Crew.{list-set, crew-more, workers-fault}
 use Rattle.sheet.proofs.reading.read_workers.Needs as need
 
@@ -44,6 +47,7 @@ loop-worker-again c =
       ap (λ (x : Market). x .tenants) after ∙ before .4,
       before .5 ∙ crew-more n w (c .args .size) bytes m classes place row (omega arith) (omega arith) due
           ∙ ap₂ (λ (p : ℕ) (x : Market). read-workers (n - (w + 1)) (c .args .size) bytes (record { place = p; lowest = 3; text = crew-text x (set classes w (row .class)) (w + 1) })) (sym next) (sym after),
+      λ v h. let other : v ≢ w = omega arith in getD-set-other classes w v (row .class) 0 other ∙ before .6 v (omega arith),
     )
 
 pub returns-in-Break-class : need.returns-in-Break-class
@@ -56,4 +60,7 @@ returns-in-Break-class c =
     let due = ap (λ (b : List ℕ). worker-due (c .args .size) b place) (sym (before .0)) ∙ sym (read .value) in
     let whole = before .5 ∙ workers-fault (c .args .size .workers) w (c .args .size) bytes (record { place = place; lowest = 3; text = crew-text (market (c .loop-worker .lists)) (c .loop-worker .classes) w }) _ (omega arith) due in
     let p = err-from-errBy (c .from-residual .result) (c .from-residual .ensures .1) in
-    rw (p .1, p .2) (record { value = sym whole; input = read .input ∙ before .0; classes = tt; counts = tt })
+    rw (p .1, p .2) (record { value = sym whole; input = read .input ∙ before .0; classes = tt; idle = tt; counts = tt })
+
+pub loop-worker-holds : need.loop-worker-holds
+loop-worker-holds c = (refl, refl, refl, search needs, search needs, search needs, λ w h. zeros 64 w)

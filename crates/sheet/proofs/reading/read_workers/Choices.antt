@@ -1,8 +1,8 @@
 -- The workers so far are read, and what is left to read gives what the whole gives.
-use Prim.Native.Nat.{_-_}
+use Prim.Native.Nat.{ℕ, _-_, _≤_}
 use mathlib.Core.Bool.{true}
 use mathlib.Core.Path.{_≡_}
-use lib.ListN.{length}
+use lib.ListN.{length, getD}
 use Rattle.fleet.specs.Sets.{all-under}
 use Rattle.fleet.specs.Lists.{market}
 use Rattle.sheet.specs.Framing.{input}
@@ -15,3 +15,4 @@ Inv-loop-worker l =
     × (market (l .lists) .workers ≡ l .size .workers) × (market (l .lists) .tenants ≡ l .size .tenants)
     × (read-workers (l .size .workers) (l .size) (input (l .entry .reader)) (record { place = l .entry .reader .place; lowest = 3; text = no-text })
     ≡ read-workers (l .size .workers - l .worker) (l .size) (input (l .entry .reader)) (record { place = l .reader .place; lowest = 3; text = crew-text (market (l .lists)) (l .classes) (l .worker) }))
+    × ((w : ℕ) → l .worker ≤ w → getD (l .classes) w 0 ≡ 0)

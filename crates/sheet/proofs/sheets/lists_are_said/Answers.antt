@@ -5,7 +5,7 @@ use mathlib.Core.Path.{_≡_, sym, ap, _∙_, fun-ext}
 use Rattle.fleet.specs.Lists.{market}
 use Rattle.fleet.specs.Market.{Market}
 use Rattle.sheet.specs.Sheets.{tenants-in}
-use Rattle.sheet.specs.Says.{text, classes-of}
+use Rattle.sheet.specs.Says.{text}
 use Rattle.sheet.proofs.Said.{rows-length, list-said}
 use Rattle.sheet.proofs.sheets.lists_are_said.Needs as need
 
@@ -17,4 +17,4 @@ pub returns : need.returns
 returns c =
     let s = c .args .sheet .now in
     let l = s .lists in
-    same-market (l .workers) _ (l .tenants) _ (market l .list) _ (sym (rows-length (market l) (classes-of s) (l .workers))) (s .counted) (fun-ext (list-said l (classes-of s)))
+    same-market (l .workers) _ (l .tenants) _ (market l .list) _ (sym (rows-length (market l) (s .tenants .seated .classes) (l .workers))) (s .counted) (fun-ext (list-said l (s .tenants .seated .classes)))

@@ -3,7 +3,7 @@ use Prim.Native.Nat.{ℕ, _≤_}
 use mathlib.Core.Bool.{true}
 use mathlib.Core.List.{List, [], _∷_}
 use mathlib.Core.Path.{_≡_, refl, sym, ap, ap₂, _∙_}
-use lib.ListN.{replicate}
+use lib.ListN.{getD, replicate}
 use Rattle.std.proofs.shelf.Tests.{le-leb}
 use Rattle.std.specs.declared.result.Result.{Result}
 use Rattle.std.specs.declared.result.Result.the-variants.{Ok}
@@ -21,6 +21,7 @@ use Rattle.sheet.specs.declared.tenants.Tenants.{Tenants}
 use Rattle.sheet.specs.Sheets.{Sheet-text, rows-of, tenants-in, well-formed}
 use Rattle.sheet.specs.Texts.{text-of}
 use Rattle.sheet.specs.Says.{one-worker-text}
+use Rattle.sheet.proofs.Lists.{zeros}
 use Rattle.sheet.proofs.sheets.one_worker.Needs as need
 
 module _ (l : Lists) (t : Tenants) (q : Ranking 64) (n : ℕ) (none : market l ≡ no-lists 1 1) (one : ranks (t .ranked) ≡ record { «cap» = n; list = [] } ∷ [])
@@ -37,6 +38,9 @@ module _ (l : Lists) (t : Tenants) (q : Ranking 64) (n : ℕ) (none : market l �
   formed : n ≤ 64 → well-formed (text-of l t q) ≡ true
   formed h = ap well-formed said ∙ rw (le-leb n 64 h) refl
 
+idle : (t : Tenants) {n : ℕ} → t .seated .classes ≡ replicate 64 0 → (w : ℕ) → n ≤ w → getD (t .seated .classes) w 0 ≡ 0
+idle t e w h = ap (λ (l : List ℕ). getD l w 0) e ∙ zeros 64 w
+
 made-lists : (m k : Market) → _≡_ {A = Result Market ℕ} (Ok m) (Ok k) → m ≡ k
 made-lists m k e = cc
 
@@ -47,7 +51,7 @@ ghost-result c =
     let told = c .one-tenant .ensures in
     let none = made-lists (market l) (no-lists 1 1) (c .in-Ok .ensures tt) in (
       counted l t (c .empty .result) (c .args .«cap») none (told .ranked) (told .others .0) (told .others .1) (told .classes) (c .empty .ensures),
-      (formed l t (c .empty .result) (c .args .«cap») none (told .ranked) (told .others .0) (told .others .1) (told .classes) (c .empty .ensures) (c .pre), tt),
+      (idle t (told .classes), (formed l t (c .empty .result) (c .args .«cap») none (told .ranked) (told .others .0) (told .others .1) (told .classes) (c .empty .ensures) (c .pre), tt)),
     )
 
 pub returns : need.returns

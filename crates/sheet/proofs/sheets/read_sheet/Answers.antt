@@ -7,4 +7,4 @@ pub ghost-result : need.ghost-result
 ghost-result c =
     let read = c .in-Continue-lists .ensures tt in
     let said = text-of (c .in-Continue-lists .lists) (c .in-Continue-lists .tenants) (c .in-Continue-lists .quarantine) in
-    (read .counts, (c .reads-exactly .ensures said .0 (sym (read .value)) .0, tt))
+    (read .counts, (read .idle, (c .reads-exactly .ensures said .0 (sym (read .value)) .0, tt)))
