@@ -1,0 +1,9 @@
+-- The worked cases, computed.
+use Rattle.matching.specs.Entries.{tabulate}
+use Rattle.rotation.specs.Rotation.{target}
+use Rattle.rotation.specs.Moves.{carried, walk}
+use Rattle.rotation.proofs.cases.cases_hold.Needs as need
+
+pub returns : need.returns
+unfolding tabulate target carried walk
+returns c = tt
