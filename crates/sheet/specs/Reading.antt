@@ -64,15 +64,19 @@ size-of content = record { workers = getD content 0 0; tenants = getD content 1 
 
 -- the rows that contents say
 
+-- a class and a list of tenants
 abbrev pub worker-row : List ℕ → Worker-row
 worker-row content = record { class = getD content 0 0; list = drop 1 content }
 
+-- a cap and a list of workers
 abbrev pub ranked-row : List ℕ → RankedRule
 ranked-row content = record { cap = getD content 0 0; list = drop 1 content }
 
+-- an overall cap, eight class caps and a list of workers
 abbrev pub seated-row : List ℕ → SeatedRule
 seated-row content = record { overall = getD content 0 0; caps = take 8 (drop 1 content); list = drop 9 content }
 
+-- as many workers as the length tells, and then the entries
 abbrev pub table-row : List ℕ → TableRule
 table-row content = let n = list-end Table (length content) in record { workers = take n content; entries = drop n content }
 
@@ -83,29 +87,37 @@ made-of row (Err e) = Err e
 
 -- the counts, a worker and the quarantine that are due at an offset
 
+-- the counts that are due at an offset
 abbrev pub size-due : List ℕ → ℕ → Result Size FieldFault
 size-due bytes at = made-of size-of (field-due First no-size bytes at)
 
+-- the worker that is due at an offset
 abbrev pub worker-due : Size → List ℕ → ℕ → Result Worker-row FieldFault
 worker-due size bytes at = made-of worker-row (field-due NextWorker size bytes at)
 
+-- the quarantine that is due at an offset
 abbrev pub quarantine-due : Size → List ℕ → ℕ → Result (List ℕ) FieldFault
 quarantine-due size bytes at = made-of (λ content. content) (field-due Last size bytes at)
 
 -- the text with one row more
 
+-- one worker more
 abbrev pub add-worker : Sheet-text → Worker-row → Sheet-text
 add-worker s r = record { workers = s .workers ++ (r ∷ []); ranked = s .ranked; seated = s .seated; tables = s .tables; quarantine = s .quarantine }
 
+-- one ranked tenant more
 abbrev pub add-ranked : Sheet-text → RankedRule → Sheet-text
 add-ranked s r = record { workers = s .workers; ranked = s .ranked ++ (r ∷ []); seated = s .seated; tables = s .tables; quarantine = s .quarantine }
 
+-- one seated tenant more
 abbrev pub add-seated : Sheet-text → SeatedRule → Sheet-text
 add-seated s r = record { workers = s .workers; ranked = s .ranked; seated = s .seated ++ (r ∷ []); tables = s .tables; quarantine = s .quarantine }
 
+-- one table more
 abbrev pub add-table : Sheet-text → TableRule → Sheet-text
 add-table s r = record { workers = s .workers; ranked = s .ranked; seated = s .seated; tables = s .tables ++ (r ∷ []); quarantine = s .quarantine }
 
+-- these workers in quarantine
 abbrev pub with-quarantine : Sheet-text → List ℕ → Sheet-text
 with-quarantine s q = record { workers = s .workers; ranked = s .ranked; seated = s .seated; tables = s .tables; quarantine = q }
 
@@ -170,6 +182,7 @@ worker-told (Err e) = Err e
 abbrev pub crew-text : Market → List ℕ → ℕ → Sheet-text
 crew-text m classes n = record { workers = rows-of m classes n; ranked = []; seated = []; tables = []; quarantine = [] }
 
+-- the same as the program has it: the workers that were read, or the fault
 abbrev pub crew-progress : Result (Lists × List ℕ) FieldFault → ℕ → Result Progress SheetFault
 crew-progress (Ok crew) place = Ok (record { place = place; lowest = 3; text = crew-text (market (crew .0)) (crew .1) (market (crew .0) .workers) })
 crew-progress (Err e) place = Err (fault.Field e)
@@ -225,6 +238,7 @@ quarantine-told (Err e) = Err e
 abbrev pub end-due : List ℕ → ℕ → Option FieldFault
 end-due bytes at = cond (ltb at (length bytes)) (Some (Surplus at)) None
 
+-- the fault that the program found there
 abbrev pub end-told : Result (Unit {0}) FieldFault → Option FieldFault
 end-told (Ok _) = None
 end-told (Err e) = Some e

@@ -42,15 +42,19 @@ tenants-in s = length (s .ranked) + length (s .seated) + length (s .tables)
 
 -- the contents of the fields
 
+-- the class, then the list
 abbrev pub worker-content : Worker-row → List ℕ
 worker-content r = r .class ∷ r .list
 
+-- the cap, then the list
 abbrev pub ranked-content : RankedRule → List ℕ
 ranked-content r = r .cap ∷ r .list
 
+-- the overall cap, the eight class caps, then the list
 abbrev pub seated-content : SeatedRule → List ℕ
 seated-content r = r .overall ∷ (r .caps ++ r .list)
 
+-- the workers, then the entries
 abbrev pub table-content : TableRule → List ℕ
 table-content r = r .workers ++ r .entries
 
