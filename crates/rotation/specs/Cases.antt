@@ -1,15 +1,20 @@
--- Worked cases: what small markets settle to, and the rotations from there on, as one list that one computed test checks.
+-- Worked cases: what small markets settle to and the rotations from there on, and what is told of small tables, as one list that one computed test checks.
 use Prim.Native.Nat.{ℕ}
 use mathlib.Core.Bool.{Bool, true, false, _&&_}
-use mathlib.Core.List.{List, [], _∷_}
+use mathlib.Core.List.{List, [], _∷_, map}
 use lib.Dec.{eqb, T}
 use lib.ListN.{length, getD}
 use Rattle.std.specs.Options.{valueOr}
+use Rattle.std.specs.declared.option.Option.{Option}
+use Rattle.std.specs.declared.option.Option.the-variants.{Some, None}
 use Rattle.fleet.specs.Market.{Market}
 use Rattle.fleet.specs.declared.Move.{Move}
 use Rattle.policy.specs.Choice.{Policy}
 use Rattle.policy.specs.Kinds.{RankedRule, ranked-policy, seated-policy}
 use Rattle.policy.specs.Combined.{joined}
+use Rattle.policy.specs.Faults.{law-number, table-fault}
+use Rattle.policy.specs.declared.fault.TableFault.{TableFault}
+use Rattle.policy.specs.declared.fault.TableFault.the-variants.{Workers, Entries, Outside, Broken}
 use Rattle.matching.specs.Entries.{tabulate, place}
 use Rattle.matching.specs.Settling.{settled-placement, settled-rounds}
 use Rattle.rotation.specs.Moves.{moved, rotation-at}
@@ -66,10 +71,33 @@ holds c =
     eqb (settled-rounds m C) (c .rounds) &&
     (same-entries eqb (tabulate (m .workers) (settled-placement m C)) (c .settled) && turns-hold m C (c .settled) (c .turns))
 
+-- a table of two workers: its entries, and what is told of them, the fault's number and its sets, or zeros where there is none
+pub record Table-case : Type 0 where
+  pub entries : List ℕ
+  pub told : List ℕ
+
+-- the number of a fault and the sets that it names
+abbrev pub fault-told : Option TableFault → List ℕ
+fault-told None = 0 ∷ 0 ∷ 0 ∷ []
+fault-told (Some (Outside z)) = 20 ∷ z ∷ 0 ∷ []
+fault-told (Some (Broken law z y)) = law-number law ∷ z ∷ y ∷ []
+fault-told (Some Workers) = 12 ∷ 0 ∷ 0 ∷ []
+fault-told (Some Entries) = 12 ∷ 0 ∷ 0 ∷ []
+
+-- a worked case: a market, or a table
+pub data Worked : Type 0 where
+  of-market : Case → Worked
+  of-table : Table-case → Worked
+
+-- the worked case is as it says
+abbrev pub worked-holds : Worked → Bool
+worked-holds (of-market c) = holds c
+worked-holds (of-table c) = same-entries eqb (fault-told (table-fault (0 ∷ 1 ∷ []) (c .entries))) (c .told)
+
 -- so is each case of the list
-abbrev pub all-hold : List Case → Bool
+abbrev pub all-hold : List Worked → Bool
 all-hold [] = true
-all-hold (c ∷ cs) = holds c && all-hold cs
+all-hold (c ∷ cs) = worked-holds c && all-hold cs
 
 -- two workers that swap tenants, and one that gets none
 abbrev pub ring : Case
@@ -120,9 +148,18 @@ twice = record {
   turns = record { worker = 0; moves = go 0 2 1 ∷ go 1 2 0 ∷ go 2 0 2 ∷ go 3 1 2 ∷ []; after = 1 ∷ 0 ∷ 2 ∷ 2 ∷ [] } ∷ [];
 }
 
+-- four tables: one that keeps the laws, one that chooses outside its set, and one that breaks each of two laws
+abbrev pub tables-of-two : List Table-case
+tables-of-two =
+    record { entries = 0 ∷ 1 ∷ 2 ∷ 1 ∷ []; told = 0 ∷ 0 ∷ 0 ∷ [] }
+    ∷ record { entries = 0 ∷ 3 ∷ 2 ∷ 3 ∷ []; told = 20 ∷ 1 ∷ 0 ∷ [] }
+    ∷ record { entries = 0 ∷ 0 ∷ 2 ∷ 3 ∷ []; told = 21 ∷ 3 ∷ 1 ∷ [] }
+    ∷ record { entries = 0 ∷ 1 ∷ 2 ∷ 0 ∷ []; told = 22 ∷ 3 ∷ 1 ∷ [] }
+    ∷ []
+
 -- the cases
-abbrev pub cases : List Case
-cases = ring ∷ spare ∷ shared ∷ twice ∷ []
+abbrev pub cases : List Worked
+cases = of-market ring ∷ of-market spare ∷ of-market shared ∷ of-market twice ∷ map (λ c. of-table c) tables-of-two
 
 -- every case holds
 abbrev pub Cases-hold : Type 0

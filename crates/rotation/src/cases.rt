@@ -9,7 +9,7 @@ pub fn worked_cases() -> usize
     ensures hold { λ _. ⌜ Cases-hold ⌝ }
 {
     cases_hold();
-    4
+    8
 }
 
 // The worked cases hold, by computing them.
