@@ -1,4 +1,6 @@
 // The board: its calls, its tickets, and what holds after any list of calls.
+#![tactic(auto)]
+
 mod accessors;
 mod answering;
 pub mod board;

@@ -1,4 +1,6 @@
 // Examples of what boards, journals, settling and rotations do, as tests.
+#![tactic(auto)]
+
 #[cfg(test)]
 mod boards;
 #[cfg(test)]

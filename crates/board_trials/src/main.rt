@@ -3,6 +3,8 @@
 // word `journal` and a journal; `room` and a number for an empty journal with room for so many bytes; `add` and the numbers of an event;
 // `sheet`, a sheet and a first number for a board; or a call of that board: `open` and a worker, `commit` and `withdraw` and a ticket's number
 // or `blank`, `back`, `rewind`.
+#![tactic(auto)]
+
 mod journals;
 mod scripts;
 mod seen;

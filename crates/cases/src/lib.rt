@@ -1,4 +1,6 @@
 // Worked cases of boards and tables, computed from the definitions.
+#![tactic(auto)]
+
 ghost use Rattle.std.specs.Prelude.{◌≡◌, length};
 ghost use Rattle.cases.specs.Cases.{cases as worked, CasesHold};
 

@@ -1,4 +1,6 @@
 // The words of the subject: sets of workers, rankings, the workers' lists of tenants, moves and events.
+#![tactic(auto)]
+
 pub mod lists;
 mod markets;
 mod numbers;

@@ -1,4 +1,6 @@
 // The bytes of events: adding them to a journal, and reading a journal.
+#![tactic(auto)]
+
 pub mod adding;
 mod events;
 pub mod fault;

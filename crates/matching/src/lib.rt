@@ -1,4 +1,6 @@
 // Stable placements: settling, the check of a placement, and workers' steps.
+#![tactic(auto)]
+
 pub mod checking;
 pub mod placement;
 mod placements;

@@ -1,4 +1,6 @@
 // Reads a sheet from standard input and prints what it comes to.
+#![tactic(auto)]
+
 use report::{LONGEST, Outcome};
 use std::io;
 use std::io::Read;

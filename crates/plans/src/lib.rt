@@ -1,4 +1,6 @@
 // What the bytes of a sheet come to, and how that is printed.
+#![tactic(auto)]
+
 ghost use Rattle.std.specs.Prelude.{◌≡◌, length};
 ghost use Rattle.sheet.specs.Reading.{decode};
 ghost use Rattle.sheet.specs.Says.{text};

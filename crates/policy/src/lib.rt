@@ -1,4 +1,6 @@
 // Policies: what each tenant chooses out of a set of workers, and the laws that every choice keeps.
+#![tactic(auto)]
+
 ghost use Rattle.std.specs.Prelude.{◌≡◌, ℕ};
 ghost use Rattle.fleet.specs.Sets.{Set};
 ghost use Rattle.fleet.specs.Members.{members};

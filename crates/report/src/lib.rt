@@ -1,4 +1,6 @@
 // What the bytes of a sheet come to, and how that is printed.
+#![tactic(auto)]
+
 ghost use Rattle.std.specs.Prelude.{◌≡◌};
 ghost use Rattle.sheet.specs.Says.{text};
 ghost use Rattle.report.specs.Outcomes.{outcome_of, settled_text};

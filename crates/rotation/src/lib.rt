@@ -1,4 +1,6 @@
 // Rotations: cycles of workers that each put the next one out, their moves, and where they lead.
+#![tactic(auto)]
+
 pub mod cases;
 mod knowing;
 mod known;

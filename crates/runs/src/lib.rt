@@ -1,4 +1,6 @@
 // The board as a machine on values: what each call does, and what holds after any list of calls.
+#![tactic(auto)]
+
 ghost use Rattle.runs.specs.Laws.{BoardLaws, BoardBounds, NeverStopped};
 
 /// What holds of a board after any list of calls. This computes nothing: it is called for what its contract says.

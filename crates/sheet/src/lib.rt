@@ -1,5 +1,7 @@
 // The bytes of a sheet. Layer 1, `framing`, cuts them into fields; layer 2, `contents`, looks at what each field may hold; layer 3, `reading`
 // and `writing`, goes between fields and what a sheet says.
+#![tactic(auto)]
+
 mod adding;
 mod contents;
 pub mod encoded;

@@ -1,5 +1,7 @@
 // Reads cases, one to a line as pairs of hexadecimal digits, and prints what each comes to: an input of the program `place`; a
 // sheet and, behind a space, a placement of 64 bytes to be checked; or a sheet and the word `rotations`, for those at its settled placement.
+#![tactic(auto)]
+
 ghost use Rattle.std.specs.Prelude.{◌<◌, IfOk};
 
 use anyhow::anyhow;
