@@ -7,4 +7,4 @@ pub returns : goal.returns
 returns g c =
     let old = c.args.into.now in
     let at = c.args.at in
-    ap₂ (λ ys zs. take at old ++ (ys ++ zs)) c.copy-from-slice.ensures.after (Post-is at (at + length c.args.items.now) old (omega arith))
+    ap₂ (λ ys zs. take at old ++ (ys ++ zs)) c.copy_from_slice.ensures.after (Post-is at (at + length c.args.items.now) old (omega arith))

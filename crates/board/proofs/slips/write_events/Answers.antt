@@ -14,23 +14,23 @@ use Rattle.board.proofs.slips.write_events.Goals as goal
 few : (r : MoveList) → length (listing r) ≤ 64
 few r = omega (arith, length-take r.len r.moves, r.short)
 
-pub event-at-requires : goal.event-at-requires
-event-at-requires c = (omega arith, omega (arith, ap length c.as-slice-steps.ensures))
+pub event_at-requires : goal.event_at-requires
+event_at-requires c = (omega arith, omega (arith, ap length c.as_slice-steps.ensures))
 
 pub loop-i-preserved : goal.loop-i-preserved
 loop-i-preserved c =
-    let r = c.as-slice-steps.result.now in
+    let r = c.as_slice-steps.result.now in
     let i = c.loop-i.i in
     ap₂ (λ (s : List Event) (e : Event). set s i e) c.loop-i.invariant c.event_at.ensures ∙
     slip_more c.args.slip.now c.args.number c.args.kind i r no_move
-    (omega (arith, ap length c.as-slice-steps.ensures, few c.args.moves.now)) (omega arith)
+    (omega (arith, ap length c.as_slice-steps.ensures, few c.args.moves.now)) (omega arith)
 
 pub returns : goal.returns
 returns c =
     let all : List Move = listing c.args.moves.now in
     let n = c.args.number in
     let kind = c.args.kind in
-    let steps = c.as-slice-steps.ensures in
+    let steps = c.as_slice-steps.ensures in
     let i = c.loop-i.i in
     let end : i ≡ length (events n kind all) = omega (arith, ap length steps, length_events n kind all) in
     record {

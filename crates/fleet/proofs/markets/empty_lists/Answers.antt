@@ -6,8 +6,8 @@ use Rattle.fleet.specs.Rankings.{listed, row}
 use Rattle.fleet.proofs.Sound.{empty_rows, empty_len, empty_market}
 use Rattle.fleet.proofs.markets.empty_lists.Goals as goal
 
-pub invariant-of-result : goal.invariant-of-result
-invariant-of-result c =
+pub invariant_of-result : goal.invariant_of-result
+invariant_of-result c =
     let blank = c.empty-row.result in
     let none = empty_rows blank c.empty-row.ensures in (
       refl,

@@ -7,4 +7,4 @@ pub returns : goal.returns
 returns c =
     let buffer = c.args.buffer.now in
     let used = c.args.used in
-    ap₂ (λ (ys zs : List ℕ). take used buffer ++ (ys ++ zs)) (c.copy-from-slice.ensures.after ∙ c.bytes-of.ensures) (Post-is used (used + 15) buffer (omega arith))
+    ap₂ (λ (ys zs : List ℕ). take used buffer ++ (ys ++ zs)) (c.copy_from_slice.ensures.after ∙ c.bytes_of.ensures) (Post-is used (used + 15) buffer (omega arith))

@@ -13,4 +13,4 @@ returns-in-Some g c =
 
 pub loop-worker-preserved : goal.loop-worker-preserved
 loop-worker-preserved g c =
-    found_none (λ w. first_that (blocks (market c.args.lists.now) (g.P.Policy.chosen c.args.policy.now) (place c.args.staffing.now.placement.places) w) ((market c.args.lists.now).list w)) c.loop-worker.worker c.loop-worker.invariant (sym c.blocking.ensures ∙ c.in-default.is)
+    found_none (λ w. first_that (blocks (market c.args.lists.now) (g.P.Policy.chosen c.args.policy.now) (place c.args.staffing.now.placement.places) w) ((market c.args.lists.now).list w)) c.loop-worker.worker c.loop-worker.invariant (sym c.blocking.ensures ∙ c.in_default.is)

@@ -21,4 +21,4 @@ loop-tenant-preserved g c =
     let t = c.loop-tenant.tenant in
     let found : ℕ → Option ℕ = λ s. lowest 64 (unchosen C (place c.args.staffing.now.placement.places) s) in
     let same = c.unchosen.ensures ∙ ap (λ (A : Set). minus A (C t A)) c.staff.ensures in
-    found_none found t c.loop-tenant.invariant (sym (c.lowest.ensures ∙ ap (lowest 64) same) ∙ c.in-default.is)
+    found_none found t c.loop-tenant.invariant (sym (c.lowest.ensures ∙ ap (lowest 64) same) ∙ c.in_default.is)

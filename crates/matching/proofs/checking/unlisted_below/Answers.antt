@@ -13,4 +13,4 @@ returns-in-Some c =
 
 pub loop-worker-preserved : goal.loop-worker-preserved
 loop-worker-preserved c =
-    found_none (unlisted (market c.args.lists.now) (place c.args.staffing.now.placement.places)) c.loop-worker.worker c.loop-worker.invariant (sym c.unlisted.ensures ∙ c.in-default.is)
+    found_none (unlisted (market c.args.lists.now) (place c.args.staffing.now.placement.places)) c.loop-worker.worker c.loop-worker.invariant (sym c.unlisted.ensures ∙ c.in_default.is)

@@ -11,8 +11,8 @@ use Rattle.matching.specs.Entries.{tabulate}
 use Rattle.matching.proofs.Standing.{closed_more, closed_all, still_open}
 use Rattle.matching.proofs.settling.close.Goals as goal
 
-pub close-one-requires : goal.close-one-requires
-close-one-requires c =
+pub close_one-requires : goal.close_one-requires
+close_one-requires c =
     let inv = c.loop-w.invariant.2 in
     let old = c.args.closed.now in
     let all = coming c.into-iter-w-iterator.result in
@@ -41,9 +41,9 @@ loop-w-preserved c =
       tt,
       tt,
       (
-        c.close-one.array_long,
-        λ v. ap (λ l. get_or l v 0) c.close-one.ensures.closed ∙ closed_more old closed all rest next w (omega (arith, inv.0)) inv.1 in_rest (inv.3 w in_rest) steps.others v,
-        c.close-one.ensures.standing,
+        c.close_one.array_long,
+        λ v. ap (λ l. get_or l v 0) c.close_one.ensures.closed ∙ closed_more old closed all rest next w (omega (arith, inv.0)) inv.1 in_rest (inv.3 w in_rest) steps.others v,
+        c.close_one.ensures.standing,
         λ v h. inv.3 v (and_parts (rest v) (not (eqb v w)) (sym (same_at steps.others v) ∙ h)).0,
       ),
     )

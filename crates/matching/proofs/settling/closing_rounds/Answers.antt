@@ -28,8 +28,8 @@ rounds-init g c =
       refl,
     )
 
-pub turned-away-away-requires : goal.turned-away-away-requires
-turned-away-away-requires g c = c.rounds.invariant.2
+pub turned_away-away-requires : goal.turned_away-away-requires
+turned_away-away-requires g c = c.rounds.invariant.2
 
 pub returns-then-not-anybody : goal.returns-then-not-anybody
 returns-then-not-anybody g c =
@@ -38,7 +38,7 @@ returns-then-not-anybody g c =
     let given = lists_given c.args.lists.now (g.met.P.Policy.lawful c.args.policy.now) in
     let K = c.rounds.closed in
     let seats = c.rounds.staffing.placement in
-    let out : members c.turned-away-away.result ≡ rejected m C K = c.turned-away-away.ensures.away ∙ away_rejected given K (place seats.places) c.rounds.invariant.1 in
+    let out : members c.turned_away-away.result ≡ rejected m C K = c.turned_away-away.ensures.away ∙ away_rejected given K (place seats.places) c.rounds.invariant.1 in
     let end = reached_end given c.rounds.invariant.0 (ap (λ (A : Set). is_some (lowest 64 A)) (sym out) ∙ sym c.if-not-anybody.ensures) in
     record {
       placed = table_of_place seats.places seats.full ∙
@@ -53,14 +53,14 @@ close-requires g c =
     let C = g.P.Policy.chosen c.args.policy.now in
     let given = lists_given c.args.lists.now (g.met.P.Policy.lawful c.args.policy.now) in
     let K = c.rounds.closed in
-    let out = c.turned-away-away.ensures.away ∙ away_rejected given K (place c.rounds.staffing.placement.places) c.rounds.invariant.1 in
+    let out = c.turned_away-away.ensures.away ∙ away_rejected given K (place c.rounds.staffing.placement.places) c.rounds.invariant.1 in
     record {
       «open» = λ w h. rejected_short m C K w (sym (same_at out w) ∙ h);
       standing = c.rounds.invariant.1;
     }
 
-pub overflow-add-closing : goal.overflow-add-closing
-overflow-add-closing g c =
+pub overflow_add-closing : goal.overflow_add-closing
+overflow_add-closing g c =
     let given = lists_given c.args.lists.now (g.met.P.Policy.lawful c.args.policy.now) in
     let a = reached_few given c.rounds.invariant.0 in
     let b = pairs_few given in
@@ -78,7 +78,7 @@ rounds-preserved g c =
     let C = g.P.Policy.chosen c.args.policy.now in
     let given = lists_given c.args.lists.now (g.met.P.Policy.lawful c.args.policy.now) in
     let K = c.rounds.closed in
-    let out : members c.turned-away-away.result ≡ rejected m C K = c.turned-away-away.ensures.away ∙ away_rejected given K (place c.rounds.staffing.placement.places) c.rounds.invariant.1 in
+    let out : members c.turned_away-away.result ≡ rejected m C K = c.turned_away-away.ensures.away ∙ away_rejected given K (place c.rounds.staffing.placement.places) c.rounds.invariant.1 in
     let next : next_round m C K ≡ c.close.new.closed = sym (c.close.ensures.closed ∙ ap (λ (S : Set). tabulate 64 (λ w. get_or K w 0 + cond (S w) 1 0)) out) in
     let more = reached_next given c.rounds.invariant.0 (ap (λ (A : Set). is_some (lowest 64 A)) (sym out) ∙ sym c.if-not-anybody.ensures) in
-    (subst (Reached m C (c.rounds.closing + 1)) next more, c.close.ensures.standing, c.turned-away-away.ensures.content, c.close.array_long, c.turned-away-away.array_long)
+    (subst (Reached m C (c.rounds.closing + 1)) next more, c.close.ensures.standing, c.turned_away-away.ensures.content, c.close.array_long, c.turned_away-away.array_long)

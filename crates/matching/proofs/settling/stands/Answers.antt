@@ -7,5 +7,5 @@ use Rattle.matching.proofs.settling.stands.Goals as goal
 pub returns : goal.returns
 returns c =
     let k = get_or c.args.closed.now c.args.worker 0 in
-    c.unwrap-or.ensures ∙ ap (λ (o : Option ℕ). unwrap_or o 255) c.get.ensures ∙ value_nth (listed c.list.result) k 255 ∙
+    c.unwrap_or.ensures ∙ ap (λ (o : Option ℕ). unwrap_or o 255) c.get.ensures ∙ value_nth (listed c.list.result) k 255 ∙
     ap (λ (l : List ℕ). get_or l k 255) c.list.ensures

@@ -4,4 +4,4 @@ use Rattle.fleet.specs.Sets.{minus}
 use Rattle.matching.proofs.stepping.put_out.Goals as goal
 
 pub returns : goal.returns
-returns g c = c.minus.ensures ∙ ap₂ minus c.staff.ensures c.kept-with.ensures
+returns g c = c.minus.ensures ∙ ap₂ minus c.staff.ensures c.kept_with.ensures

@@ -7,7 +7,7 @@ use Rattle.matching.specs.Entries.{place}
 use Rattle.matching.specs.Stable.{wants}
 use Rattle.matching.proofs.Scan.{scan_hit, scan_miss, scan_end, nth_among}
 use Rattle.matching.proofs.wanting.first_wanting.Goals as goal
-use Rattle.matching.proofs.wanting.first_wanting.Goals.{in-Some+else-wants, in-default}
+use Rattle.matching.proofs.wanting.first_wanting.Goals.{in-Some+else-wants, in_default}
 
 pub wants-requires : goal.wants-requires
 wants-requires g c =
@@ -25,7 +25,7 @@ loop-i-preserved g c =
     let l = listed c.args.list.now in
     elim c.match-get.branch [
       | in-Some+else-wants u ↦ c.loop-i.invariant ∙ scan_miss p l c.args.to c.loop-i.i u.in-Some.tenant c.loop-i-test.true (sym u.in-Some.ensures) (sym u.if-wants.ensures)
-      | in-default u ↦ absurd (Some≢None (sym (slice_get-get_or l c.loop-i.i 0 (omega (arith, c.requires.within))) ∙ sym c.get.ensures ∙ u.in-default.is))
+      | in_default u ↦ absurd (Some≢None (sym (slice_get-get_or l c.loop-i.i 0 (omega (arith, c.requires.within))) ∙ sym c.get.ensures ∙ u.in_default.is))
     ]
 
 pub returns : goal.returns

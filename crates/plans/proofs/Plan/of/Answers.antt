@@ -46,8 +46,8 @@ returns c =
     let b = c.make-rounds.result.0 in
     let lists : market b.table.lists ≡ m = ap market e.lists in
     let home : b.table.settled.places ≡ settled_list m C = e.after.settled ∙ ap (λ (n : Market). settled_list n C) lists in
-    let day = day_is m (market b.table.lists) C _ b.table.settled.places lists (ap chooses e.policy) home c.workers-workers.ensures.sound c.new-boards-move-on.ensures
-    (state b.table) (state c.move-on-events.new.self.table) e.state e.stable _ _ _ _ c.move-on-events.ensures.course in
+    let day = day_is m (market b.table.lists) C _ b.table.settled.places lists (ap chooses e.policy) home c.workers-workers.ensures.sound c.new_boards_move_on.ensures
+    (state b.table) (state c.move_on-events.new.self.table) e.state e.stable _ _ _ _ c.move_on-events.ensures.course in
     record {
       plan =
           same_plan m C c.workers-workers.result c.make-rounds.result.1 c.settled.result.places _ c.next_number.result c.workers-workers.ensures.value e.rounds

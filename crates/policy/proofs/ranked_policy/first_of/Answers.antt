@@ -8,7 +8,7 @@ use Rattle.policy.specs.Choice.{Choice}
 use Rattle.policy.specs.RanksLemmas.{below, ranked_walk}
 use Rattle.policy.proofs.Turns.{walked, walked_all, joins, passes}
 use Rattle.policy.proofs.ranked_policy.first_of.Goals as goal
-use Rattle.policy.proofs.ranked_policy.first_of.Goals.{then-contains+then-has-room, else-contains, else-contains-via-then-contains+else-has-room, else-contains-via-else-contains}
+use Rattle.policy.proofs.ranked_policy.first_of.Goals.{then-contains+then-has_room, else-contains, else-contains-via-then-contains+else-has_room, else-contains-via-else-contains}
 
 pub loop-worker-preserved : goal.loop-worker-preserved
 loop-worker-preserved c =
@@ -22,14 +22,14 @@ loop-worker-preserved c =
     let inv = c.loop-worker.invariant in
     let free : room ≡ ltb c.loop-worker.taken cap = ap (λ (n : ℕ). ltb n cap) (sym inv.1) in
     elim c.if-contains.branch [
-      | then-contains+then-has-room v ↦
+      | then-contains+then-has_room v ↦
           let z : Z w ≡ true = sym v.if-contains.ensures in
-          joins (below cap) Z l i h _ _ c.loop-worker.taken _ inv (members_workers c.args.of w z) z (free ∙ sym v.if-has-room.ensures)
+          joins (below cap) Z l i h _ _ c.loop-worker.taken _ inv (members_workers c.args.of w z) z (free ∙ sym v.if-has_room.ensures)
           (ap members v.chosen_is ∙ v.with-chosen.ensures) v.taken-is
       | else-contains v ↦
           passes (below cap) Z l i h _ _ c.loop-worker.taken _ inv
           (elim v.else-contains.branch [
-            | else-contains-via-then-contains+else-has-room u ↦ and_right (Z w) room (free ∙ sym u.if-has-room.ensures)
+            | else-contains-via-then-contains+else-has_room u ↦ and_right (Z w) room (free ∙ sym u.if-has_room.ensures)
             | else-contains-via-else-contains u ↦ and_left (Z w) room (sym u.if-contains.ensures)
           ])
           (ap members v.chosen_is) v.taken-is

@@ -5,10 +5,10 @@ use Rattle.fleet.specs.Members.{members}
 use Rattle.fleet.proofs.Same.{members_workers}
 use Rattle.policy.proofs.Seating.{seat_is, seats_one, seats_none, seated_all}
 use Rattle.policy.proofs.seated_policy.walk_down.Goals as goal
-use Rattle.policy.proofs.seated_policy.walk_down.Goals.{then-contains+then-has-seat, then-contains+else-has-seat, else-contains}
+use Rattle.policy.proofs.seated_policy.walk_down.Goals.{then-contains+then-has_seat, then-contains+else-has_seat, else-contains}
 
-pub class-of-class-requires : goal.class-of-class-requires
-class-of-class-requires c = (c.requires.0, members_workers c.args.of _ (sym c.if-contains.ensures))
+pub class_of-class-requires : goal.class_of-class-requires
+class_of-class-requires c = (c.requires.0, members_workers c.args.of _ (sym c.if-contains.ensures))
 
 pub loop-worker-preserved : goal.loop-worker-preserved
 loop-worker-preserved c =
@@ -28,19 +28,19 @@ loop-worker-preserved c =
     let seat = seat_is classes overall caps Z l i A n counts inv h known in
     let by_class = λ (k : ℕ). ltb n overall && ltb (get_or counts k 0) (get_or caps k 0) in
     elim c.if-contains.branch [
-      | then-contains+then-has-seat v ↦
+      | then-contains+then-has_seat v ↦
           let z : Z w ≡ true = sym v.if-contains.ensures in
-          let class = v.class-of-class.ensures in
+          let class = v.class_of-class.ensures in
           seats_one classes overall caps Z l i A n counts inv h _ _ _ (members_workers c.args.of w z) known z
-          (seat ∙ sym (v.if-has-seat.ensures ∙ ap by_class class))
-          (ap members v.chosen_is ∙ v.with-chosen.ensures) v.taken-is (v.by-class-is ∙ ap (λ (k : ℕ). set counts k (get_or counts k 0 + 1)) class)
-      | then-contains+else-has-seat v ↦
+          (seat ∙ sym (v.if-has_seat.ensures ∙ ap by_class class))
+          (ap members v.chosen_is ∙ v.with-chosen.ensures) v.taken-is (v.by_class-is ∙ ap (λ (k : ℕ). set counts k (get_or counts k 0 + 1)) class)
+      | then-contains+else-has_seat v ↦
           seats_none classes overall caps Z l i A n counts inv h _ _ _
-          (and_right (Z w) _ (seat ∙ sym (v.if-has-seat.ensures ∙ ap by_class v.class-of-class.ensures)))
-          (ap members v.chosen_is) v.taken-is v.by-class-is
+          (and_right (Z w) _ (seat ∙ sym (v.if-has_seat.ensures ∙ ap by_class v.class_of-class.ensures)))
+          (ap members v.chosen_is) v.taken-is v.by_class-is
       | else-contains v ↦
           seats_none classes overall caps Z l i A n counts inv h _ _ _ (and_left (Z w) _ (sym v.if-contains.ensures))
-          (ap members v.chosen_is) v.taken-is v.by-class-is
+          (ap members v.chosen_is) v.taken-is v.by_class-is
     ]
 
 pub returns : goal.returns

@@ -17,11 +17,11 @@ loop-place-init c =
     let ws = c.args.workers.now in
     ap (λ (l : List ℕ). index_of l (members c.args.of)) (sym (drop_all (length ws) ws (omega arith)))
 
-pub overflow-mul-index : goal.overflow-mul-index
-overflow-mul-index c = omega (arith, c.loop-place.invariant, index_small c.args.workers.now (members c.args.of) c.loop-place.place c.requires)
+pub overflow_mul-index : goal.overflow_mul-index
+overflow_mul-index c = omega (arith, c.loop-place.invariant, index_small c.args.workers.now (members c.args.of) c.loop-place.place c.requires)
 
-pub overflow-add-index : goal.overflow-add-index
-overflow-add-index c =
+pub overflow_add-index : goal.overflow_add-index
+overflow_add-index c =
     let few = index_small c.args.workers.now (members c.args.of) c.loop-place.place c.requires in
     let one : cond {A = ℕ} c.contains.result 1 0 ≤ 1 = grind arith in
     omega (arith, c.loop-place.invariant, counts c.contains.result)

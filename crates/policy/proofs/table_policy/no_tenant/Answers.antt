@@ -5,9 +5,9 @@ use Rattle.policy.specs.Search.{seek, seek_pair}
 use Rattle.policy.specs.Faults.{table_fault}
 use Rattle.policy.proofs.table_policy.no_tenant.Goals as goal
 
-pub invariant-of-result : goal.invariant-of-result
+pub invariant_of-result : goal.invariant_of-result
 unfolding seek seek_pair ones
-invariant-of-result c =
+invariant_of-result c =
     let none = c.empty.ensures in
     let sound = λ (ws : List ℕ). is_some (table_fault ws (take (2 ^ length ws) (replicate 256 0))) ≡ false in
     (omega (arith, ap length none), (refl, (subst sound (sym none) refl, tt)))

@@ -4,7 +4,7 @@ use Rattle.policy.specs.Tables.{outside}
 use Rattle.policy.specs.Searches.{seek_below}
 use Rattle.policy.proofs.table_search.entries_fault.Goals as goal
 
-pub overflow-cast-result : goal.overflow-cast-result
-overflow-cast-result c =
+pub overflow_cast-result : goal.overflow_cast-result
+overflow_cast-result c =
     let es = c.args.entries.now in
     omega (arith, seek_below (length es) c.in-Some.index (outside es) c.in-Some.ensures)

@@ -8,7 +8,7 @@ pub loop-part-preserved : goal.loop-part-preserved
 loop-part-preserved c =
     let es = c.args.entries.now in
     let p = breaks c.args.law es in
-    (c.loop-part.invariant.0, c.loop-part.invariant.1 ∙ seek_miss (length es) c.loop-part.part (p c.sets.whole) (omega arith) (sym c.if-is-broken.ensures))
+    (c.loop-part.invariant.0, c.loop-part.invariant.1 ∙ seek_miss (length es) c.loop-part.part (p c.sets.whole) (omega arith) (sym c.if-is_broken.ensures))
 
 pub sets-preserved : goal.sets-preserved
 sets-preserved c =
@@ -22,9 +22,9 @@ returns-after-sets c =
     let es = c.args.entries.now in
     c.sets.invariant.0 ∙ sym (c.sets.invariant.1 ∙ pair_end (length es) c.sets.whole (breaks c.args.law es) (omega arith))
 
-pub returns-then-is-broken : goal.returns-then-is-broken
-returns-then-is-broken c =
+pub returns-then-is_broken : goal.returns-then-is_broken
+returns-then-is_broken c =
     let es = c.args.entries.now in
     let p = breaks c.args.law es in
-    let hit = c.loop-part.invariant.1 ∙ seek_hit (length es) c.loop-part.part (p c.sets.whole) (omega arith) (sym c.if-is-broken.ensures) in
+    let hit = c.loop-part.invariant.1 ∙ seek_hit (length es) c.loop-part.part (p c.sets.whole) (omega arith) (sym c.if-is_broken.ensures) in
     sym (c.sets.invariant.1 ∙ pair_hit (length es) c.sets.whole c.loop-part.part p (omega arith) hit)

@@ -4,12 +4,12 @@ use Rattle.policy.specs.Faults.{breaks}
 use Rattle.policy.specs.Searches.{pair_below}
 use Rattle.policy.proofs.table_search.law_fault.Goals as goal
 
-pub overflow-cast-result : goal.overflow-cast-result
-overflow-cast-result c =
+pub overflow_cast-result : goal.overflow_cast-result
+overflow_cast-result c =
     let es = c.args.entries.now in
     omega (arith, pair_below (length es) c.in-Some.whole c.in-Some.part (breaks c.args.law es) c.in-Some.ensures)
 
-pub overflow-cast-result-in-Some : goal.overflow-cast-result-in-Some
-overflow-cast-result-in-Some c =
+pub overflow_cast-result-in-Some : goal.overflow_cast-result-in-Some
+overflow_cast-result-in-Some c =
     let es = c.args.entries.now in
     omega (arith, pair_below (length es) c.in-Some.whole c.in-Some.part (breaks c.args.law es) c.in-Some.ensures)

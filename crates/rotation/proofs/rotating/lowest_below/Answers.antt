@@ -19,13 +19,13 @@ loop-worker-init g c =
 pub walk-requires : goal.walk-requires
 walk-requires g c = record { worker = omega (arith, c.requires); knows = c.loop-worker.invariant.1 }
 
-pub returns-then-is-some : goal.returns-then-is-some
-returns-then-is-some g c =
+pub returns-then-is_some : goal.returns-then-is_some
+returns-then-is_some g c =
     let m = market c.args.lists.now in
     let C = g.P.Policy.chosen c.args.policy.now in
     let x = place c.args.staffing.now.placement.places in
     let w = c.loop-worker.worker in
-    let here = sym (walk_tells m C x w c.walk.result c.walk.ensures.found) ∙ sym c.if-is-some.ensures in
+    let here = sym (walk_tells m C x w c.walk.result c.walk.ensures.found) ∙ sym c.if-is_some.ensures in
     sym (lowest_least c.args.workers (on_rotation m C x) w c.loop-worker-test.true here (none_below w (on_rotation m C x) c.loop-worker.invariant.0))
 
 pub loop-worker-preserved : goal.loop-worker-preserved
@@ -34,7 +34,7 @@ loop-worker-preserved g c =
     let C = g.P.Policy.chosen c.args.policy.now in
     let x = place c.args.staffing.now.placement.places in
     let w = c.loop-worker.worker in
-    let here = sym (walk_tells m C x w c.walk.result c.walk.ensures.found) ∙ sym c.if-is-some.ensures in
+    let here = sym (walk_tells m C x w c.walk.result c.walk.ensures.found) ∙ sym c.if-is_some.ensures in
     (lowest_more w (on_rotation m C x) c.loop-worker.invariant.0 here, c.walk.ensures.knows)
 
 pub returns : goal.returns

@@ -23,8 +23,8 @@ loop-n-init g c =
       c.requires.worker,
     )
 
-pub next-of-requires : goal.next-of-requires
-next-of-requires g c = record { worker = c.loop-n.invariant.3; knows = c.loop-n.invariant.2 }
+pub next_of-requires : goal.next_of-requires
+next_of-requires g c = record { worker = c.loop-n.invariant.3; knows = c.loop-n.invariant.2 }
 
 pub returns-in-None : goal.returns-in-None
 returns-in-None g c =
@@ -37,12 +37,12 @@ returns-in-None g c =
     let k : 64 - c.loop-n.n ≡ suc (63 - c.loop-n.n) = omega arith in
     record {
       found = sym (c.loop-n.invariant.0 ∙ ap (λ (i : ℕ). gathered A (walk m C x w i v)) k ∙ walk_none m C x w (63 - c.loop-n.n) v A (sym c.in-None.ensures.next));
-      knows = c.next-of.ensures.knows;
+      knows = c.next_of.ensures.knows;
       displacing = tt;
     }
 
-pub returns-then-is-back : goal.returns-then-is-back
-returns-then-is-back g c =
+pub returns-then-is_back : goal.returns-then-is_back
+returns-then-is_back g c =
     let m = market c.args.lists.now in
     let C = g.P.Policy.chosen c.args.policy.now in
     let x = place c.args.staffing.now.placement.places in
@@ -54,10 +54,10 @@ returns-then-is-back g c =
     let k : 64 - c.loop-n.n ≡ suc (63 - c.loop-n.n) = omega arith in
     record {
       found = sym (c.loop-n.invariant.0 ∙ ap (λ (i : ℕ). gathered A (walk m C x w i v)) k ∙
-          walk_last m C x w (63 - c.loop-n.n) v A u c.loop-n.invariant.3 e (sym c.if-is-back.ensures) ∙ ap Some (sym c.with-on.ensures));
-      knows = c.next-of.ensures.knows;
-      displacing = displacing_more m C x c.loop-n.known c.next-of.new.known A (members c.with-on.result) v u
-          c.loop-n.invariant.1 c.next-of.ensures.more c.next-of.ensures.here e c.with-on.ensures;
+          walk_last m C x w (63 - c.loop-n.n) v A u c.loop-n.invariant.3 e (sym c.if-is_back.ensures) ∙ ap Some (sym c.with-on.ensures));
+      knows = c.next_of.ensures.knows;
+      displacing = displacing_more m C x c.loop-n.known c.next_of.new.known A (members c.with-on.result) v u
+          c.loop-n.invariant.1 c.next_of.ensures.more c.next_of.ensures.here e c.with-on.ensures;
     }
 
 pub loop-n-preserved : goal.loop-n-preserved
@@ -73,11 +73,11 @@ loop-n-preserved g c =
     let rest = 64 - (c.loop-n.n + 1) in
     let k : 64 - c.loop-n.n ≡ suc (64 - (c.loop-n.n + 1)) = omega arith in (
       c.loop-n.invariant.0 ∙ ap (λ (i : ℕ). gathered A (walk m C x w i v)) k ∙
-          walk_on m C x w rest v A u c.loop-n.invariant.3 e (sym c.if-is-back.ensures) ∙
+          walk_on m C x w rest v A u c.loop-n.invariant.3 e (sym c.if-is_back.ensures) ∙
           ap (λ (S : Set). gathered S (walk m C x w rest u)) (sym c.with-on.ensures),
-      displacing_more m C x c.loop-n.known c.next-of.new.known A (members c.with-on.result) v u
-          c.loop-n.invariant.1 c.next-of.ensures.more c.next-of.ensures.here e c.with-on.ensures,
-      c.next-of.ensures.knows,
+      displacing_more m C x c.loop-n.known c.next_of.new.known A (members c.with-on.result) v u
+          c.loop-n.invariant.1 c.next_of.ensures.more c.next_of.ensures.here e c.with-on.ensures,
+      c.next_of.ensures.knows,
       (successor_some m C x v u e).small,
     )
 

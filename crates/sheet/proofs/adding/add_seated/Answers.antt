@@ -6,8 +6,8 @@ use Rattle.sheet.specs.Sheets.{is_list}
 use Rattle.sheet.specs.Reading.{seated_row}
 use Rattle.sheet.proofs.adding.add_seated.Goals as goal
 
-pub class-caps-requires : goal.class-caps-requires
-class-caps-requires c =
+pub class_caps-requires : goal.class_caps-requires
+class_caps-requires c =
     let row = seated_row c.args.content.now in
     let parts = and_parts (leb row.overall 64) ((eqb (length row.caps) 8 && all_under 65 row.caps) && is_list 64 row.list) c.requires.0 in
     let caps = and_parts (eqb (length row.caps) 8 && all_under 65 row.caps) (is_list 64 row.list) parts.1 in

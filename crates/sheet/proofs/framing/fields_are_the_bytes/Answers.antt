@@ -3,4 +3,4 @@ use Rattle.sheet.proofs.Parts.{fields_are_the_bytes}
 use Rattle.sheet.proofs.framing.fields_are_the_bytes.Goals as goal
 
 pub returns : goal.returns
-returns c = fields_are_the_bytes c.args.bytes.now c.are-bytes.ensures
+returns c = fields_are_the_bytes c.args.bytes.now c.are_bytes.ensures

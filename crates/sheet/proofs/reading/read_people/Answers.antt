@@ -12,27 +12,27 @@ pub returns : goal.returns
 returns c =
     let reader = c.args.reader.now in
     let bytes = input reader in
-    let size = c.in-ok-size.size in
-    let lists = c.in-ok-lists.lists in
-    let classes = c.in-ok-lists.classes in
-    let tenants = c.in-ok-tenants.tenants in
+    let size = c.in_ok-size.size in
+    let lists = c.in_ok-lists.lists in
+    let classes = c.in_ok-lists.classes in
+    let tenants = c.in_ok-tenants.tenants in
     let rows = rows_of (market lists) classes lists.workers in
     let place = c.read_tenants.new.reader.place in
-    let whole = read_to_quarantine bytes bytes (input c.read-size.new.reader) (input c.read_workers.new.reader) reader.place c.read-size.new.reader.place size
+    let whole = read_to_quarantine bytes bytes (input c.read_size.new.reader) (input c.read_workers.new.reader) reader.place c.read_size.new.reader.place size
     (record { place = c.read_workers.new.reader.place; lowest = 3; text = crew_text (market lists) classes lists.workers }) (tenants_text rows tenants) place
-    refl c.requires c.in-ok-size.ensures.value c.in-ok-size.ensures.input c.in-ok-size.ensures.place c.in-ok-lists.ensures.value
-    c.in-ok-lists.ensures.input (c.in-ok-tenants.ensures.value rows) in
+    refl c.requires c.in_ok-size.ensures.value c.in_ok-size.ensures.input c.in_ok-size.ensures.place c.in_ok-lists.ensures.value
+    c.in_ok-lists.ensures.input (c.in_ok-tenants.ensures.value rows) in
     record {
-      value = whole ∙ ap (λ (k : List ℕ). after_tenants bytes size (tenants_text (rows_of (market lists) k lists.workers) tenants) place) (sym c.in-ok-tenants.ensures.classes);
-      input = c.in-ok-tenants.ensures.input ∙ c.in-ok-lists.ensures.input ∙ c.in-ok-size.ensures.input;
-      few = c.in-ok-size.ensures.range.1;
-      idle = λ w h. ap (λ (k : List ℕ). get_or k w 0) c.in-ok-tenants.ensures.classes ∙ c.in-ok-lists.ensures.idle w (omega (arith, c.in-ok-lists.ensures.counts.0));
-      counts = c.in-ok-lists.ensures.counts.1 ∙ sym c.in-ok-tenants.ensures.counts;
+      value = whole ∙ ap (λ (k : List ℕ). after_tenants bytes size (tenants_text (rows_of (market lists) k lists.workers) tenants) place) (sym c.in_ok-tenants.ensures.classes);
+      input = c.in_ok-tenants.ensures.input ∙ c.in_ok-lists.ensures.input ∙ c.in_ok-size.ensures.input;
+      few = c.in_ok-size.ensures.range.1;
+      idle = λ w h. ap (λ (k : List ℕ). get_or k w 0) c.in_ok-tenants.ensures.classes ∙ c.in_ok-lists.ensures.idle w (omega (arith, c.in_ok-lists.ensures.counts.0));
+      counts = c.in_ok-lists.ensures.counts.1 ∙ sym c.in_ok-tenants.ensures.counts;
     }
 
-pub returns-in-err-size : goal.returns-in-err-size
-returns-in-err-size c =
+pub returns-in_err-size : goal.returns-in_err-size
+returns-in_err-size c =
     let reader = c.args.reader.now in
     let p = err_from_is_err_and c.from-residual.result c.from-residual.ensures.1 in
-    let due = ap (λ (at : ℕ). size_due (input reader) at) (sym c.requires) ∙ sym c.in-err-size.ensures.value in
-    rw (p.1, p.2) (record { value = size_fault (input reader) _ due; input = c.in-err-size.ensures.input; few = tt; idle = tt; counts = tt })
+    let due = ap (λ (at : ℕ). size_due (input reader) at) (sym c.requires) ∙ sym c.in_err-size.ensures.value in
+    rw (p.1, p.2) (record { value = size_fault (input reader) _ due; input = c.in_err-size.ensures.input; few = tt; idle = tt; counts = tt })

@@ -12,8 +12,8 @@ pub returns : goal.returns
 returns c =
     let size = c.args.size in
     let reader = c.args.reader.now in
-    let due = c.in-ok-field.ensures in
-    let field = field_of c.in-ok-field.field-0 in
+    let due = c.in_ok-field.ensures in
+    let field = field_of c.in_ok-field.field-0 in
     let good = quarantine_good size (input reader) reader.place reader.octets field c.requires (sym due.value) in
     let fine = list_wider size.workers 64 field.content c.requires good in
     let list : listed c.ranking.result ≡ field.content = c.ranking.ensures (ap (is_list 64) c.content-content.ensures ∙ fine) ∙ c.content-content.ensures in

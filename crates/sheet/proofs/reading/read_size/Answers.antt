@@ -11,8 +11,8 @@ use Rattle.sheet.proofs.reading.read_size.Goals as goal
 pub returns : goal.returns
 returns c =
     let reader = c.args.reader.now in
-    let due = c.in-ok-field.ensures in
-    let field = field_of c.in-ok-field.field-0 in
+    let due = c.in_ok-field.ensures in
+    let field = field_of c.in_ok-field.field-0 in
     let content = field.content in
     let w = get_or content 0 0 in
     let t = get_or content 1 0 in

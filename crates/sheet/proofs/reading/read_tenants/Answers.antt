@@ -13,18 +13,18 @@ use Rattle.sheet.proofs.reading.read_tenants.Goals as goal
 pub add-requires : goal.add-requires
 add-requires c =
     let reader = c.loop-number.reader in
-    let due = c.in-ok-field.ensures in
-    let field = field_of c.in-ok-field.field in
+    let due = c.in_ok-field.ensures in
+    let field = field_of c.in_ok-field.field in
     let known = tenant_due c.args.size (input reader) reader.place c.loop-number.lowest reader.octets (omega arith) field (sym due.value) in
     record { good = known.1; room = (omega (arith, c.loop-number.invariant.2), (omega (arith, c.loop-number.invariant.2), omega (arith, c.loop-number.invariant.2))); fits = due.fits }
 
-pub returns-in-err-field : goal.returns-in-err-field
-returns-in-err-field c =
+pub returns-in_err-field : goal.returns-in_err-field
+returns-in_err-field c =
     let size = c.args.size in
     let bytes = input c.args.reader.now in
     let place = c.loop-number.reader.place in
     let before = c.loop-number.invariant in
-    let read = c.in-err-field.ensures in
+    let read = c.in_err-field.ensures in
     let due = ap (λ (b : List ℕ). field_due (NextTenant c.loop-number.lowest) size b place) (sym before.0) ∙ sym read.value in
     let p = err_from_is_err_and c.from-residual.result c.from-residual.ensures.1 in
     rw (p.1, p.2) (record {
@@ -35,20 +35,20 @@ returns-in-err-field c =
       counts = tt;
     })
 
-pub returns-in-err-add : goal.returns-in-err-add
-returns-in-err-add c =
+pub returns-in_err-add : goal.returns-in_err-add
+returns-in_err-add c =
     let size = c.args.size in
     let bytes = input c.args.reader.now in
     let place = c.loop-number.reader.place in
     let before = c.loop-number.invariant in
-    let read = c.in-ok-field.ensures in
-    let field = field_of c.in-ok-field.field in
+    let read = c.in_ok-field.ensures in
+    let field = field_of c.in_ok-field.field in
     let due = ap (λ (b : List ℕ). field_due (NextTenant c.loop-number.lowest) size b place) (sym before.0) ∙ sym read.value in
-    let p = err_from_is_err_and c.from-residual-in-err-add.result c.from-residual-in-err-add.ensures.1 in
+    let p = err_from_is_err_and c.from-residual-in_err-add.result c.from-residual-in_err-add.ensures.1 in
     rw (p.1, p.2) (record {
       value = λ rows.
           ap text_and_place (sym (before.3 rows ∙ tenant_fault size.tenants c.loop-number.number size bytes (record { place = place; lowest = c.loop-number.lowest; text = tenants_text rows c.loop-number.tenants }) field _ (omega arith) due
-          (sym (c.in-err-add.ensures.text rows))));
+          (sym (c.in_err-add.ensures.text rows))));
       input = read.input ∙ before.0;
       classes = tt;
       counts = tt;
@@ -63,9 +63,9 @@ loop-number-preserved c =
     let reader = c.loop-number.reader in
     let place = reader.place in
     let before = c.loop-number.invariant in
-    let read = c.in-ok-field.ensures in
-    let field = field_of c.in-ok-field.field in
-    let added = c.in-ok-add.ensures in
+    let read = c.in_ok-field.ensures in
+    let field = field_of c.in_ok-field.field in
+    let added = c.in_ok-add.ensures in
     let due = ap (λ (b : List ℕ). field_due (NextTenant c.loop-number.lowest) size b place) (sym before.0) ∙ sym read.value in
     let next : c.field.new.self.place ≡ place_after bytes place = read.place ∙ ap (λ (b : List ℕ). place_after b place) before.0 in
     let known = tenant_due size (input reader) place c.loop-number.lowest reader.octets (omega arith) field (sym read.value) in

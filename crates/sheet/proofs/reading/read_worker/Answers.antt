@@ -14,8 +14,8 @@ pub returns : goal.returns
 returns c =
     let size = c.args.size in
     let reader = c.args.reader.now in
-    let due = c.in-ok-field.ensures in
-    let field = field_of c.in-ok-field.field-0 in
+    let due = c.in_ok-field.ensures in
+    let field = field_of c.in_ok-field.field-0 in
     let content = field.content in
     let good = worker_good size (input reader) reader.place reader.octets field c.requires (sym due.value) in
     let fine = list_wider size.tenants 16 (drop 1 content) c.requires (and_parts (ltb (get_or content 0 0) 8) (is_list size.tenants (drop 1 content)) good).1 in

@@ -23,13 +23,13 @@ loop-worker-preserved c =
     let classes = c.loop-worker.classes in
     let m = market c.loop-worker.lists in
     let before = c.loop-worker.invariant in
-    let read = c.in-ok-class.ensures in
-    let row : WorkerRow = record { class = c.in-ok-class.class; list = listed c.in-ok-class.list } in
+    let read = c.in_ok-class.ensures in
+    let row : WorkerRow = record { class = c.in_ok-class.class; list = listed c.in_ok-class.list } in
     let good = and_parts (ltb row.class 8) (is_list c.args.size.tenants row.list) read.good in
     let under : all_under m.tenants row.list ≡ true =
     ap (λ (t : ℕ). all_under t row.list) before.4 ∙ (and_parts (all_under c.args.size.tenants row.list) (different row.list) good.1).0 in
     let due : worker_due c.args.size bytes place ≡ Ok row = ap (λ (b : List ℕ). worker_due c.args.size b place) (sym before.0) ∙ sym read.value in
-    let next : c.read-worker.new.reader.place ≡ place_after bytes place = read.place ∙ ap (λ (b : List ℕ). place_after b place) before.0 in
+    let next : c.read_worker.new.reader.place ≡ place_after bytes place = read.place ∙ ap (λ (b : List ℕ). place_after b place) before.0 in
     let after : market c.set.new.self ≡ with_list m w row.list = c.set.ensures.after ∙ list_set m w row.list (omega arith) under in (
       read.input ∙ before.0,
       length-set classes w row.class ∙ before.1,
@@ -41,13 +41,13 @@ loop-worker-preserved c =
       λ v h. let other : v ≢ w = omega arith in get_or-set_other classes w v row.class 0 other ∙ before.6 v (omega arith),
     )
 
-pub returns-in-err-class : goal.returns-in-err-class
-returns-in-err-class c =
+pub returns-in_err-class : goal.returns-in_err-class
+returns-in_err-class c =
     let w = c.loop-worker.worker in
     let bytes = input c.args.reader.now in
     let place = c.loop-worker.reader.place in
     let before = c.loop-worker.invariant in
-    let read = c.in-err-class.ensures in
+    let read = c.in_err-class.ensures in
     let due = ap (λ (b : List ℕ). worker_due c.args.size b place) (sym before.0) ∙ sym read.value in
     let whole = before.5 ∙ workers_fault c.args.size.workers w c.args.size bytes (record { place = place; lowest = 3; text = crew_text (market c.loop-worker.lists) c.loop-worker.classes w }) _ (omega arith) due in
     let p = err_from_is_err_and c.from-residual.result c.from-residual.ensures.1 in

@@ -38,11 +38,11 @@ idle t e w h = ap (λ (l : List ℕ). get_or l w 0) e ∙ zeros 64 w
 made_lists : (m k : Market) → ◌≡◌ {A = Result Market ℕ} (Ok m) (Ok k) → m ≡ k
 made_lists m k e = cc
 
-pub invariant-of-result : goal.invariant-of-result
-invariant-of-result c =
+pub invariant_of-result : goal.invariant_of-result
+invariant_of-result c =
     let l = c.in-Ok.lists in
-    let t = c.one-tenant.result in
-    let told = c.one-tenant.ensures in
+    let t = c.one_tenant.result in
+    let told = c.one_tenant.ensures in
     let none = made_lists (market l) (no_lists 1 1) c.in-Ok.ensures in (
       counted l t c.empty.result c.args.«cap» none told.ranked told.others.0 told.others.1 told.classes c.empty.ensures,
       (idle t told.classes, (formed l t c.empty.result c.args.«cap» none told.ranked told.others.0 told.others.1 told.classes c.empty.ensures c.requires, tt)),
@@ -51,5 +51,5 @@ invariant-of-result c =
 pub returns : goal.returns
 returns c =
     let l = c.in-Ok.lists in
-    let told = c.one-tenant.ensures in
-    said l c.one-tenant.result c.empty.result c.args.«cap» (made_lists (market l) (no_lists 1 1) c.in-Ok.ensures) told.ranked told.others.0 told.others.1 told.classes c.empty.ensures
+    let told = c.one_tenant.ensures in
+    said l c.one_tenant.result c.empty.result c.args.«cap» (made_lists (market l) (no_lists 1 1) c.in-Ok.ensures) told.ranked told.others.0 told.others.1 told.classes c.empty.ensures

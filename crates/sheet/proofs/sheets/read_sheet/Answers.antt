@@ -3,8 +3,8 @@ use Rattle.std.proofs.Common.{sym}
 use Rattle.sheet.specs.Texts.{text_of}
 use Rattle.sheet.proofs.sheets.read_sheet.Goals as goal
 
-pub invariant-of-result : goal.invariant-of-result
-invariant-of-result c =
-    let read = c.in-ok-lists.ensures in
-    let said = text_of c.in-ok-lists.lists c.in-ok-lists.tenants c.in-ok-lists.quarantine in
-    (read.counts, (read.idle, (((c.reads-exactly.ensures said).0 (sym read.value)).0, tt)))
+pub invariant_of-result : goal.invariant_of-result
+invariant_of-result c =
+    let read = c.in_ok-lists.ensures in
+    let said = text_of c.in_ok-lists.lists c.in_ok-lists.tenants c.in_ok-lists.quarantine in
+    (read.counts, (read.idle, (((c.reads_exactly.ensures said).0 (sym read.value)).0, tt)))

@@ -6,4 +6,4 @@ use Rattle.sheet.proofs.WrittenIsRead.{written_is_read}
 use Rattle.sheet.proofs.sheets.reads_exactly.Goals as goal
 
 pub returns : goal.returns
-returns c = λ s. (read_is_written c.args.bytes.now c.are-bytes.ensures s, λ h. ap decode (sym h.1) ∙ written_is_read s h.0)
+returns c = λ s. (read_is_written c.args.bytes.now c.are_bytes.ensures s, λ h. ap decode (sym h.1) ∙ written_is_read s h.0)

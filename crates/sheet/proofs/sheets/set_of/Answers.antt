@@ -13,12 +13,12 @@ one_more l i h small = fun_ext (λ w. let e = among_push (take i l) (get_or l i 
 
 pub loop-i-preserved : goal.loop-i-preserved
 loop-i-preserved c =
-    let l = c.as-slice-workers.result.now in
+    let l = c.as_slice-workers.result.now in
     let i = c.loop-i.i in
-    let there = ap (λ (k : List ℕ). among k (get_or l i 0)) (sym c.as-slice-workers.ensures) ∙ among_getD l i 0 (omega arith) in
+    let there = ap (λ (k : List ℕ). among k (get_or l i 0)) (sym c.as_slice-workers.ensures) ∙ among_getD l i 0 (omega arith) in
     c.with-set.ensures ∙ ap (λ (A : Set). with_worker A (get_or l i 0)) c.loop-i.invariant ∙ one_more l i (omega arith) (c.args.ranking.now.within (get_or l i 0) there)
 
 pub returns : goal.returns
 returns c =
-    let l = c.as-slice-workers.result.now in
-    c.loop-i.invariant ∙ ap among (take_all c.loop-i.i l (omega arith) ∙ c.as-slice-workers.ensures)
+    let l = c.as_slice-workers.result.now in
+    c.loop-i.invariant ∙ ap among (take_all c.loop-i.i l (omega arith) ∙ c.as_slice-workers.ensures)

@@ -12,9 +12,9 @@ tenants-requires c =
 pub field-requires : goal.field-requires
 field-requires c =
     quarantine_room c.args.lists.now c.args.tenants.now c.args.quarantine.now c.requires c.classes.ensures c.empty-sheet.ensures c.counts.ensures c.workers.ensures
-    c.tenants.ensures c.as-slice.ensures
+    c.tenants.ensures c.as_slice.ensures
 
 pub returns : goal.returns
 returns c =
     all_there c.args.lists.now c.args.tenants.now c.args.quarantine.now c.requires c.classes.ensures c.empty-sheet.ensures c.counts.ensures c.workers.ensures
-    c.tenants.ensures c.as-slice.ensures c.field.ensures
+    c.tenants.ensures c.as_slice.ensures c.field.ensures

@@ -28,8 +28,8 @@ returns-in-Err g c =
       policy = c.open-opened.ensures.policy;
     }
 
-pub write-down-then-requires : goal.write-down-then-requires
-write-down-then-requires g c =
+pub write_down-then-requires : goal.write_down-then-requires
+write_down-then-requires g c =
     let t = c.args.self.now.table in
     let C = g.P.Policy.chosen c.args.self.now.policy in
     let w = c.args.worker in
@@ -38,8 +38,8 @@ write-down-then-requires g c =
     let one = one_event t C w mv c.in-Ok.events ok in
     (omega (arith, (turn_room t C w mv).0, c.requires), omega arith)
 
-pub write-down-requires : goal.write-down-requires
-write-down-requires g c =
+pub write_down-requires : goal.write_down-requires
+write_down-requires g c =
     let t = c.args.self.now.table in
     let C = g.P.Policy.chosen c.args.self.now.policy in
     let w = c.args.worker in
@@ -51,7 +51,7 @@ write-down-requires g c =
     let D = g.P.Policy.chosen c.open-opened.new.self.policy in
     let next : called D u (commit (ticket_said c.open-opened.result.1)) ≡ _ = second t C w mv u D o.keeps (ap g.P.Policy.chosen o.policy) o.state (ticket_said c.open-opened.result.1) o.ticket in
     let count = moved_count t C w mv c.in-Ok-commit.events _ c.in-Ok-commit.ensures.answer next in
-    let end = c.write-down-then.ensures.end in
+    let end = c.write_down-then.ensures.end in
     (omega (arith, (turn_room t C w mv).0, c.requires), omega (arith, (turn_room t C w mv).1))
 
 pub returns-in-Ok-commit : goal.returns-in-Ok-commit
@@ -68,10 +68,10 @@ returns-in-Ok-commit g c =
     let next : called D u (commit (ticket_said c.open-opened.result.1)) ≡ _ = second t C w mv u D o.keeps (ap g.P.Policy.chosen o.policy) o.state (ticket_said c.open-opened.result.1) o.ticket in
     let k = c.in-Ok-commit.ensures in
     let written = turn_written t C w mv c.args.log.now c.args.at c.in-Ok.events c.in-Ok-commit.events _ next ok k.answer _ _ _ o.slip k.slip
-    _ _ _ c.write-down-then.ensures.log c.write-down.ensures.log c.write-down-then.ensures.end (omega (arith, (turn_room t C w mv).0, c.requires)) in
+    _ _ _ c.write_down-then.ensures.log c.write_down.ensures.log c.write_down-then.ensures.end (omega (arith, (turn_room t C w mv).0, c.requires)) in
     record {
       state = k.state ∙ ap (λ (p : State × Answer). p.0) next ∙ sym (ap (λ (d : Course). d.reached) (whole t C w mv));
-      count = c.write-down.ensures.end ∙ written.0;
+      count = c.write_down.ensures.end ∙ written.0;
       stopped = sym (ap (λ (d : Course). d.stopped) (whole t C w mv));
       log = written.1;
       keeps = record { lists = k.keeps.lists ∙ o.keeps.lists; settled = k.keeps.settled ∙ o.keeps.settled };

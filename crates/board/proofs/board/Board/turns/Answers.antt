@@ -9,9 +9,9 @@ use Rattle.board.proofs.board.Board.turns.Goals as goal
 keeps_on : (t u v : Table) → Keeps t u → Keeps u v → Keeps t v
 keeps_on t u v k j = record { lists = j.lists ∙ k.lists; settled = j.settled ∙ k.settled }
 
-pub returns-in-default : goal.returns-in-default
-returns-in-default g c = record {
-  course = c.ends.ensures.none (state c.args.self.now.table) c.args.log.now c.loop-turns.turns c.loop-turns.invariant.0 c.in-default.ensures;
+pub returns-in_default : goal.returns-in_default
+returns-in_default g c = record {
+  course = c.ends.ensures.none (state c.args.self.now.table) c.args.log.now c.loop-turns.turns c.loop-turns.invariant.0 c.in_default.ensures;
   keeps = c.loop-turns.invariant.1;
   policy = c.loop-turns.invariant.2;
 }
@@ -28,7 +28,7 @@ returns-in-Some-stopped g c =
 pub loop-turns-preserved : goal.loop-turns-preserved
 loop-turns-preserved g c =
     let e = c.advance-written.ensures in (
-      e.moves (state c.args.self.now.table) c.args.log.now c.loop-turns.turns c.loop-turns.invariant.0 (omega arith) c.in-default-stopped.is,
+      e.moves (state c.args.self.now.table) c.args.log.now c.loop-turns.turns c.loop-turns.invariant.0 (omega arith) c.in_default-stopped.is,
       keeps_on _ _ _ c.loop-turns.invariant.1 e.keeps,
       e.policy ∙ c.loop-turns.invariant.2,
     )

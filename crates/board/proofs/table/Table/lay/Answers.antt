@@ -48,19 +48,19 @@ pub put-requires : goal.put-requires
 put-requires c =
     let t = c.args.self.now in
     let r : Rotation = listing c.args.rotation.now in
-    omega (arith, move_room t r (one_more t r c.requires.down c.requires.some), ap length c.as-slice-moves.ensures, t.rooms)
+    omega (arith, move_room t r (one_more t r c.requires.down c.requires.some), ap length c.as_slice-moves.ensures, t.rooms)
 
-pub overflow-cast-result : goal.overflow-cast-result
-overflow-cast-result c = omega (arith, ap length c.as-slice-moves.ensures, few c.args.rotation.now)
+pub overflow_cast-result : goal.overflow_cast-result
+overflow_cast-result c = omega (arith, ap length c.as_slice-moves.ensures, few c.args.rotation.now)
 
-pub invariant-of-self : goal.invariant-of-self
-invariant-of-self c =
+pub invariant_of-self : goal.invariant_of-self
+invariant_of-self c =
     let t = c.args.self.now in
-    let r : Rotation = c.as-slice-moves.result.now in
+    let r : Rotation = c.as_slice-moves.result.now in
     let ms = c.put.new.into in
     let e = c.put.ensures in
     let room = move_room t (listing c.args.rotation.now) (one_more t (listing c.args.rotation.now) c.requires.down c.requires.some) in (
-      length_laid t.moves r ms t.len (omega (arith, t.fits, t.rooms)) e (omega (arith, t.rooms, room, ap length c.as-slice-moves.ensures)) ∙ t.rooms,
+      length_laid t.moves r ms t.len (omega (arith, t.fits, t.rooms)) e (omega (arith, t.rooms, room, ap length c.as_slice-moves.ensures)) ∙ t.rooms,
       (
         t.slots,
         (
@@ -95,10 +95,10 @@ pub returns : goal.returns
 returns c =
     let t = c.args.self.now in
     let all : Rotation = listing c.args.rotation.now in
-    let r : Rotation = c.as-slice-moves.result.now in
+    let r : Rotation = c.as_slice-moves.result.now in
     let ms = c.put.new.into in
     let e = c.put.ensures in
-    let whole : r ≡ all = c.as-slice-moves.ensures in
+    let whole : r ≡ all = c.as_slice-moves.ensures in
     let size : length r ≡ length all = ap length whole in
     let laid-there : piece t.len (length r) ms ≡ r = there t r ms c.requires.shut e in
     record {

@@ -8,8 +8,8 @@ use Rattle.runs.proofs.Descent.{none_leads, led_to_none}
 use Rattle.board.proofs.Pieces.{cut_none}
 use Rattle.board.proofs.table.Table.new.Goals as goal
 
-pub invariant-of-result : goal.invariant-of-result
-invariant-of-result c =
+pub invariant_of-result : goal.invariant_of-result
+invariant_of-result c =
     let m = market c.args.lists in
     let l = c.args.settled.places in (
       refl,

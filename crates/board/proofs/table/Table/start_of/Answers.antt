@@ -4,8 +4,8 @@ use Rattle.std.proofs.lemmas.List.Sums.{sum_by_more}
 use Rattle.board.proofs.Held.{size_room}
 use Rattle.board.proofs.table.Table.start_of.Goals as goal
 
-pub overflow-add-start : goal.overflow-add-start
-overflow-add-start c =
+pub overflow_add-start : goal.overflow_add-start
+overflow_add-start c =
     let t = c.args.self.now in
     omega (arith, size_room t c.loop-i.i (omega arith), c.loop-i.invariant)
 

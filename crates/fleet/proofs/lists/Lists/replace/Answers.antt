@@ -3,8 +3,8 @@ use Rattle.std.proofs.Common.{◌∙◌, length-set}
 use Rattle.fleet.proofs.Sound.{set_below, set_past}
 use Rattle.fleet.proofs.lists.Lists.replace.Goals as goal
 
-pub invariant-of-self : goal.invariant-of-self
-invariant-of-self c =
+pub invariant_of-self : goal.invariant_of-self
+invariant_of-self c =
     let l = c.args.self.now in
     let w = c.args.worker in
     let r = c.args.ranking in

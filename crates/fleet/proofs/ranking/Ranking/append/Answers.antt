@@ -6,8 +6,8 @@ use Rattle.fleet.proofs.ranking.Ranking.append.Goals as goal
 pub bounds-self-self : goal.bounds-self-self
 bounds-self-self g c = room c.args.self.now c.args.number c.requires.0 c.requires.1
 
-pub invariant-of-self : goal.invariant-of-self
-invariant-of-self g c =
+pub invariant_of-self : goal.invariant_of-self
+invariant_of-self g c =
     let r = c.args.self.now in
     let v = c.args.number in
     let small = c.requires.0 in

@@ -7,7 +7,7 @@ use Rattle.policy.proofs.ranked.Ranked.picks.Goals as goal
 pub returns-in-Some : goal.returns-in-Some
 returns-in-Some c =
     let Z = members c.args.of in
-    c.first-of.ensures ∙ ap (λ (l : List ℕ). ranked c.in-Some.found.now.cap l Z) c.as-slice.ensures
+    c.first_of.ensures ∙ ap (λ (l : List ℕ). ranked c.in-Some.found.now.cap l Z) c.as_slice.ensures
     ∙ ap (λ (o : Option RankedRule). choice_of (λ (r : RankedRule). ranked r.cap r.list) o Z) c.in-Some.ensures
 
 pub returns-in-None : goal.returns-in-None

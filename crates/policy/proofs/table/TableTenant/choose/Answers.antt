@@ -12,13 +12,13 @@ pub bounds-self-index : goal.bounds-self-index
 bounds-self-index c =
     let ws = listed c.args.self.now.workers in
     let Z = members c.args.of in
-    omega (arith, c.index-of-index.ensures, ap (λ (l : List ℕ). index_of l Z) c.as-slice-workers.ensures, index_small ws Z 0 c.args.self.now.few)
+    omega (arith, c.index_of-index.ensures, ap (λ (l : List ℕ). index_of l Z) c.as_slice-workers.ensures, index_small ws Z 0 c.args.self.now.few)
 
 pub returns : goal.returns
 returns c =
     let ws = listed c.args.self.now.workers in
     let es = c.args.self.now.entries in
     let Z = members c.args.of in
-    let same = c.as-slice-workers.ensures in
-    let index = c.index-of-index.ensures ∙ ap (λ (l : List ℕ). index_of l Z) same in
+    let same = c.as_slice-workers.ensures in
+    let index = c.index_of-index.ensures ∙ ap (λ (l : List ℕ). index_of l Z) same in
     c.named.ensures ∙ ap₂ named_by same (ap (λ (i : ℕ). get_or es i 0) index ∙ sym (get_or-take (2 ^ length ws) es (index_of ws Z) 0 (index_below ws Z)))

@@ -18,7 +18,7 @@ loop-i-preserved c =
     let i = c.loop-i.i in
     let k : Move = get_or ms i blank in
     let more : take (i + 1) ms ≡ take i ms ++ (k ∷ []) = take_more ms i blank (omega (arith, c.args.self.now.full)) in (
-      c.push.ensures.moves ∙ ap₂ (λ (r : List Move) (j : Move). r ++ (j ∷ [])) c.loop-i.invariant.0 c.way-back.ensures ∙
+      c.push.ensures.moves ∙ ap₂ (λ (r : List Move) (j : Move). r ++ (j ∷ [])) c.loop-i.invariant.0 c.way_back.ensures ∙
           sym (ap reversed more ∙ reversed_push (take i ms) k),
       omega (arith, c.push.ensures.len),
     )

@@ -4,8 +4,8 @@ use Rattle.sheet.specs.Encoding.{held}
 use Rattle.sheet.proofs.Appended.{field_put}
 use Rattle.sheet.proofs.encoded.Encoded.field.Goals as goal
 
-pub overflow-cast-size-2 : goal.overflow-cast-size-2
-overflow-cast-size-2 c = omega (arith, length-append c.args.first.now c.args.second.now)
+pub overflow_cast-size-2 : goal.overflow_cast-size-2
+overflow_cast-size-2 c = omega (arith, length-append c.args.first.now c.args.second.now)
 
 pub put-requires-2 : goal.put-requires-2
 put-requires-2 c = omega (arith, length-append c.args.first.now c.args.second.now, simp length-append at (ap length c.put.ensures))

@@ -8,19 +8,19 @@ use Rattle.sheet.proofs.RowsPut.{no_row, row_room, row_put, all_put}
 use Rattle.sheet.proofs.encoded.Encoded.seated.Goals as goal
 
 pub unreachable-requires : goal.unreachable-requires
-unreachable-requires c = no_row (seats c.args.tenants.now) c.loop-number.number (sym c.in-default.ensures) (omega arith)
+unreachable-requires c = no_row (seats c.args.tenants.now) c.loop-number.number (sym c.in_default.ensures) (omega arith)
 
 pub field-requires : goal.field-requires
 field-requires c =
-    let said = ap₂ (λ (a b : List ℕ). a ++ b) c.all-caps.ensures (c.as-slice.ensures ∙ c.list.ensures) in
+    let said = ap₂ (λ (a b : List ℕ). a ++ b) c.all_caps.ensures (c.as_slice.ensures ∙ c.list.ensures) in
     row_room Seated seated_content (held c.args.self.now) (seats c.args.tenants.now) c.loop-number.number (seat_rule c.in-Some.tenant.now) (sym c.in-Some.ensures)
-    (held c.loop-number.self) (c.all-caps.result ++ c.as-slice.result.now) c.loop-number.invariant said c.requires
+    (held c.loop-number.self) (c.all_caps.result ++ c.as_slice.result.now) c.loop-number.invariant said c.requires
 
 pub loop-number-preserved : goal.loop-number-preserved
 loop-number-preserved c =
-    let said = ap₂ (λ (a b : List ℕ). a ++ b) c.all-caps.ensures (c.as-slice.ensures ∙ c.list.ensures) in
+    let said = ap₂ (λ (a b : List ℕ). a ++ b) c.all_caps.ensures (c.as_slice.ensures ∙ c.list.ensures) in
     row_put Seated seated_content (held c.args.self.now) (seats c.args.tenants.now) c.loop-number.number (seat_rule c.in-Some.tenant.now) (sym c.in-Some.ensures)
-    (held c.loop-number.self) (c.all-caps.result ++ c.as-slice.result.now) c.loop-number.invariant said (held c.field.new.self) c.field.ensures
+    (held c.loop-number.self) (c.all_caps.result ++ c.as_slice.result.now) c.loop-number.invariant said (held c.field.new.self) c.field.ensures
 
 pub returns : goal.returns
 returns c = all_put Seated seated_content (held c.args.self.now) (seats c.args.tenants.now) c.loop-number.number (omega arith) (held c.loop-number.self) c.loop-number.invariant

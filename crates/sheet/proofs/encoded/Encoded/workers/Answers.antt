@@ -13,9 +13,9 @@ field-requires c =
     let classes = c.args.classes.now in
     let w = c.loop-worker.worker in
     let class = get_or classes w 0 in
-    let said = ap (λ (l : List ℕ). class ∷ l) (c.as-slice.ensures ∙ c.list-list.ensures) in
+    let said = ap (λ (l : List ℕ). class ∷ l) (c.as_slice.ensures ∙ c.list-list.ensures) in
     row_room Worker worker_content (held c.args.self.now) (rows_of m classes m.workers) w (row m classes w) (worker_at m classes m.workers w (omega arith)) (held c.loop-worker.self)
-    (class ∷ c.as-slice.result.now) c.loop-worker.invariant said c.requires
+    (class ∷ c.as_slice.result.now) c.loop-worker.invariant said c.requires
 
 pub loop-worker-preserved : goal.loop-worker-preserved
 loop-worker-preserved c =
@@ -23,9 +23,9 @@ loop-worker-preserved c =
     let classes = c.args.classes.now in
     let w = c.loop-worker.worker in
     let class = get_or classes w 0 in
-    let said = ap (λ (l : List ℕ). class ∷ l) (c.as-slice.ensures ∙ c.list-list.ensures) in
+    let said = ap (λ (l : List ℕ). class ∷ l) (c.as_slice.ensures ∙ c.list-list.ensures) in
     row_put Worker worker_content (held c.args.self.now) (rows_of m classes m.workers) w (row m classes w) (worker_at m classes m.workers w (omega arith)) (held c.loop-worker.self)
-    (class ∷ c.as-slice.result.now) c.loop-worker.invariant said (held c.field.new.self) c.field.ensures
+    (class ∷ c.as_slice.result.now) c.loop-worker.invariant said (held c.field.new.self) c.field.ensures
 
 pub returns : goal.returns
 returns c =
