@@ -9,7 +9,7 @@ use fleet::WorkerSet;
 
 /// Chooses out of the chosen. Nothing changes: who was chosen is chosen again.
 pub fn choose_twice<P: Policy>(policy: &P, tenant: u8, of: WorkerSet) -> WorkerSet
-    ensures same { members result ≡ chosen policy.now tenant (members of) }
+    ensures same { members result ≡ P.Policy.chosen policy.now tenant (members of) }
     ensures law { Idempotence }
 {
     let once = policy.choose(tenant, of);
@@ -25,7 +25,7 @@ pub fn choose_in_parts<P: Policy>(
     first: WorkerSet,
     second: WorkerSet,
 ) -> WorkerSet
-    ensures same { members result ≡ chosen policy.now tenant (union (members first) (members second)) }
+    ensures same { members result ≡ P.Policy.chosen policy.now tenant (union (members first) (members second)) }
     ensures law { PathIndependence }
 {
     let once = policy.choose(tenant, first);
@@ -36,8 +36,8 @@ pub fn choose_in_parts<P: Policy>(
 /// The workers of a set whom the tenant still chooses when others come. It chooses them out of the
 /// set alone too.
 pub fn staying<P: Policy>(policy: &P, tenant: u8, few: WorkerSet, others: WorkerSet) -> WorkerSet
-    ensures same { members result ≡ both (chosen policy.now tenant (union (members few) (members others))) (members few) }
-    ensures alone { Within (members result) (chosen policy.now tenant (members few)) }
+    ensures same { members result ≡ both (P.Policy.chosen policy.now tenant (union (members few) (members others))) (members few) }
+    ensures alone { Within (members result) (P.Policy.chosen policy.now tenant (members few)) }
 {
     let together = policy.choose(tenant, few.union(others));
     those_of_few(policy, tenant, few, others, together)
@@ -45,7 +45,7 @@ pub fn staying<P: Policy>(policy: &P, tenant: u8, few: WorkerSet, others: Worker
 
 /// How many more the tenant chooses when others come; it never chooses fewer.
 pub fn gain<P: Policy>(policy: &P, tenant: u8, few: WorkerSet, others: WorkerSet) -> u8
-    ensures more { result + size (chosen policy.now tenant (members few)) ≡ size (chosen policy.now tenant (union (members few) (members others))) }
+    ensures more { result + size (P.Policy.chosen policy.now tenant (members few)) ≡ size (P.Policy.chosen policy.now tenant (union (members few) (members others))) }
     ensures law { Consistency }
 {
     let alone = policy.choose(tenant, few);
@@ -62,9 +62,9 @@ fn those_of_few<P: Policy>(
     others: WorkerSet,
     together: WorkerSet,
 ) -> WorkerSet
-    requires { members together ≡ chosen policy.now tenant (union (members few) (members others)) }
-    ensures same { members result ≡ both (chosen policy.now tenant (union (members few) (members others))) (members few) }
-    ensures alone { Within (members result) (chosen policy.now tenant (members few)) }
+    requires { members together ≡ P.Policy.chosen policy.now tenant (union (members few) (members others)) }
+    ensures same { members result ≡ both (P.Policy.chosen policy.now tenant (union (members few) (members others))) (members few) }
+    ensures alone { Within (members result) (P.Policy.chosen policy.now tenant (members few)) }
 {
     together.minus(others.minus(few))
 }
@@ -73,18 +73,18 @@ fn those_of_few<P: Policy>(
 
 /// Choosing out of the chosen changes nothing.
 fn again_is_once<P: Policy>(policy: &P, tenant: u8, of: WorkerSet)
-    ensures same { chosen policy.now tenant (chosen policy.now tenant (members of)) ≡ chosen policy.now tenant (members of) }
+    ensures same { P.Policy.chosen policy.now tenant (P.Policy.chosen policy.now tenant (members of)) ≡ P.Policy.chosen policy.now tenant (members of) }
     ensures law { Idempotence }
 {}
 
 /// Choosing in parts is choosing at once.
 fn parts_are_whole<P: Policy>(policy: &P, tenant: u8, first: WorkerSet, second: WorkerSet)
-    ensures same { chosen policy.now tenant (union (chosen policy.now tenant (members first)) (members second)) ≡ chosen policy.now tenant (union (members first) (members second)) }
+    ensures same { P.Policy.chosen policy.now tenant (union (P.Policy.chosen policy.now tenant (members first)) (members second)) ≡ P.Policy.chosen policy.now tenant (union (members first) (members second)) }
     ensures law { PathIndependence }
 {}
 
 /// No fewer are chosen when others come.
 fn never_fewer<P: Policy>(policy: &P, tenant: u8, few: WorkerSet, others: WorkerSet)
-    ensures more { size (chosen policy.now tenant (members few)) ≤ size (chosen policy.now tenant (union (members few) (members others))) }
+    ensures more { size (P.Policy.chosen policy.now tenant (members few)) ≤ size (P.Policy.chosen policy.now tenant (union (members few) (members others))) }
     ensures law { Consistency }
 {}

@@ -9,25 +9,7 @@ use Rattle.fleet.proofs.markets.empty_lists.Goals as goal
 pub invariant_of-result : goal.invariant_of-result
 invariant_of-result c =
     let blank = c.empty-row.result in
-    let none = empty_rows blank c.empty-row.ensures in (
-      refl,
-      (
-        c.requires.manned,
-        (
-          c.requires.crew,
-          (
-            c.requires.hosted,
-            (
-              c.requires.hosts,
-              (
-                (λ w t h. absurd (both_ways (among (listed (row (replicate 64 blank) w)) t) (ap (λ (l : List ℕ). among l t) (none w)) h)),
-                ((λ w h. empty_len (row (replicate 64 blank) w) (none w)), tt),
-              ),
-            ),
-          ),
-        ),
-      ),
-    )
+    let none = empty_rows blank c.empty-row.ensures in record { rooms = refl; manned = c.requires.manned; crew = c.requires.crew; hosted = c.requires.hosted; hosts = c.requires.hosts; below = (λ w t h. absurd (both_ways (among (listed (row (replicate 64 blank) w)) t) (ap (λ (l : List ℕ). among l t) (none w)) h)); past = (λ w h. empty_len (row (replicate 64 blank) w) (none w)) }
 
 pub returns : goal.returns
 returns c = empty_market c.empty-row.result c.empty-row.ensures c.args.workers c.args.tenants

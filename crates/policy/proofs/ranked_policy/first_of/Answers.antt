@@ -25,14 +25,14 @@ loop-worker-preserved c =
       | then-contains+then-has_room v ↦
           let z : Z w ≡ true = sym v.if-contains.ensures in
           joins (below cap) Z l i h _ _ c.loop-worker.taken _ inv (members_workers c.args.of w z) z (free ∙ sym v.if-has_room.ensures)
-          (ap members v.chosen_is ∙ v.with-chosen.ensures) v.taken-is
+          (ap members v.chosen-is ∙ v.with-chosen.ensures) v.taken-is
       | else-contains v ↦
           passes (below cap) Z l i h _ _ c.loop-worker.taken _ inv
           (elim v.else-contains.branch [
             | else-contains-via-then-contains+else-has_room u ↦ and_right (Z w) room (free ∙ sym u.if-has_room.ensures)
             | else-contains-via-else-contains u ↦ and_left (Z w) room (sym u.if-contains.ensures)
           ])
-          (ap members v.chosen_is) v.taken-is
+          (ap members v.chosen-is) v.taken-is
     ]
 
 pub returns : goal.returns

@@ -33,14 +33,14 @@ loop-worker-preserved c =
           let class = v.class_of-class.ensures in
           seats_one classes overall caps Z l i A n counts inv h _ _ _ (members_workers c.args.of w z) known z
           (seat ∙ sym (v.if-has_seat.ensures ∙ ap by_class class))
-          (ap members v.chosen_is ∙ v.with-chosen.ensures) v.taken-is (v.by_class-is ∙ ap (λ (k : ℕ). set counts k (get_or counts k 0 + 1)) class)
+          (ap members v.chosen-is ∙ v.with-chosen.ensures) v.taken-is (v.by_class-is ∙ ap (λ (k : ℕ). set counts k (get_or counts k 0 + 1)) class)
       | then-contains+else-has_seat v ↦
           seats_none classes overall caps Z l i A n counts inv h _ _ _
           (and_right (Z w) _ (seat ∙ sym (v.if-has_seat.ensures ∙ ap by_class v.class_of-class.ensures)))
-          (ap members v.chosen_is) v.taken-is v.by_class-is
+          (ap members v.chosen-is) v.taken-is v.by_class-is
       | else-contains v ↦
           seats_none classes overall caps Z l i A n counts inv h _ _ _ (and_left (Z w) _ (sym v.if-contains.ensures))
-          (ap members v.chosen_is) v.taken-is v.by_class-is
+          (ap members v.chosen-is) v.taken-is v.by_class-is
     ]
 
 pub returns : goal.returns

@@ -10,4 +10,4 @@ unfolding seek seek_pair ones
 invariant_of-result c =
     let none = c.empty.ensures in
     let sound = λ (ws : List ℕ). is_some (table_fault ws (take (2 ^ length ws) (replicate 256 0))) ≡ false in
-    (omega (arith, ap length none), (refl, (subst sound (sym none) refl, tt)))
+    record { few = omega (arith, ap length none); room = refl; sound = subst sound (sym none) refl }

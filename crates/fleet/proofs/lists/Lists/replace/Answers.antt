@@ -9,19 +9,4 @@ invariant_of-self c =
     let w = c.args.worker in
     let r = c.args.ranking in
     let known = c.requires.known in
-    let under = c.requires.under in (
-      length-set l.rows w r ∙ l.rooms,
-      (
-        l.manned,
-        (
-          l.crew,
-          (
-            l.hosted,
-            (
-              l.hosts,
-              (set_below l w r known under, (set_past l w r known under, tt)),
-            ),
-          ),
-        ),
-      ),
-    )
+    let under = c.requires.under in record { rooms = length-set l.rows w r ∙ l.rooms; manned = l.manned; crew = l.crew; hosted = l.hosted; hosts = l.hosts; below = set_below l w r known under; past = set_past l w r known under }

@@ -12,7 +12,7 @@ invariant_of-self g c =
     let v = c.args.number in
     let small = c.requires.0 in
     let new = c.requires.1 in
-    (length-set r.items r.len v ∙ r.room, (omega (arith, room r v small new), (longer_within r v small new, (longer_apart r v small new, tt))))
+    record { room = length-set r.items r.len v ∙ r.room; short = omega (arith, room r v small new); within = longer_within r v small new; apart = longer_apart r v small new }
 
 pub returns : goal.returns
 returns g c = longer c.args.self.now c.args.number c.requires.0 c.requires.1
