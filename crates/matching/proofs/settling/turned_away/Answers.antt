@@ -2,7 +2,7 @@
 use Rattle.std.proofs.Common.{◌≡◌, ◌<◌, List, length, get_or, sym, ap, ◌∙◌, subst, ap₂, arith, length-set}
 use mathlib.Core.Path.{fun_ext}
 use Rattle.std.proofs.lemmas.List.{get_or_default}
-use Rattle.std.proofs.lemmas.Bool.{not-false}
+use Rattle.std.proofs.lemmas.Bool.{eqb-true, not-false}
 use Rattle.fleet.specs.Sets.{Set, union, minus}
 use Rattle.fleet.specs.Members.{members, bit}
 use Rattle.fleet.specs.declared.worker_set.WorkerSet.{WorkerSet}
@@ -43,7 +43,7 @@ loop-tenant-preserved g c =
           (let k = c.ne.ensures in
           let d = c.index-accepted-tenant.result in
           let same : members (get_or sets t no_workers) ≡ members staff =
-          ap (λ (s : WorkerSet). members s) (get_or_default sets t no_workers d l) ∙ sym (ap bit (k.1.0 (not-false k.0 (sym k.2 ∙ u.if-ne.false)))) in
+          ap (λ (s : WorkerSet). members s) (get_or_default sets t no_workers d l) ∙ sym (ap bit (eqb-true staff.bits (get_or sets t d).bits (not-false _ (sym k ∙ u.if-ne.false)))) in
           let again = subst (λ (A : Set). C t A ≡ A) (same ∙ c.staff-staff.ensures) (c.loop-tenant.invariant.1 t (omega arith)) in (
             ap (λ (s : WorkerSet). members s) u.away-is ∙ c.loop-tenant.invariant.0 ∙ fun_ext (away_kept C x t again),
             subst (Content C) (sym u.accepted-is) c.loop-tenant.invariant.1,

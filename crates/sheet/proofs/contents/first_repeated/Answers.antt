@@ -17,7 +17,7 @@ returns-then-seen-number c =
     let again : ℕ → Bool = λ i. among (take i l) (get_or l i 0) in
     let i = c.loop-i.i in
     let inside : i < length l = omega arith in
-    let small : get_or l i 0 < 256 = omega (arith, c.type-inv.list i) in
+    let small : get_or l i 0 < 256 = omega (arith, c.type_inv.list i) in
     record { value = sym (c.loop-i.invariant.0 ∙ seek_hit (length l) i again inside (sym (c.loop-i.invariant.1.1 (get_or l i 0) small) ∙ c.if-seen-number.true)); within = omega arith }
 
 pub loop-i-preserved : goal.loop-i-preserved
@@ -26,7 +26,7 @@ loop-i-preserved c =
     let again : ℕ → Bool = λ i. among (take i l) (get_or l i 0) in
     let i = c.loop-i.i in
     let inside : i < length l = omega arith in
-    let small : get_or l i 0 < 256 = omega (arith, c.type-inv.list i) in
+    let small : get_or l i 0 < 256 = omega (arith, c.type_inv.list i) in
     let seen = c.loop-i.seen in
     let same : length (set seen (get_or l i 0) true) ≡ 256 = length-set seen (get_or l i 0) true ∙ c.loop-i.invariant.1.0 in (
       c.loop-i.invariant.0 ∙ seek_miss (length l) i again inside (sym (c.loop-i.invariant.1.1 (get_or l i 0) small) ∙ c.if-seen-number.false),

@@ -21,7 +21,7 @@ returns-in_err-quarantine c =
     let people : decode bytes ≡ after_tenants bytes size text place =
     ap decode (sym first) ∙ c.in_ok-size.ensures.value ∙ ap (λ (b : List ℕ). after_tenants b size text place) first in
     let due = ap (λ (b : List ℕ). quarantine_due size b place) (sym (c.in_ok-size.ensures.input ∙ first)) ∙ sym c.in_err-quarantine.ensures.value in
-    let p = err_from_is_err_and c.from-residual-in_err-quarantine.result c.from-residual-in_err-quarantine.ensures.1 in
+    let p = err_from_is_err_and c.from_residual-in_err-quarantine.result c.from_residual-in_err-quarantine.ensures.1 in
     rw (p.1, p.2) (record { value = sym (people ∙ quarantine_fault bytes size text place _ due); counts = tt; idle = tt })
 
 pub returns-in_err-read_end : goal.returns-in_err-read_end
@@ -41,7 +41,7 @@ returns-in_err-read_end c =
     let due = ap (λ (b : List ℕ). quarantine_due size b place) (sym second) ∙ sym c.in_ok-quarantine.ensures.value in
     let next = c.in_ok-quarantine.ensures.place ∙ ap (λ (b : List ℕ). place_after b place) second in
     let over = ap₂ end_due (sym third) (sym next) ∙ sym c.in_err-read_end.ensures in
-    let p = err_from_is_err_and c.from-residual-in_err-read_end.result c.from-residual-in_err-read_end.ensures.1 in
+    let p = err_from_is_err_and c.from_residual-in_err-read_end.result c.from_residual-in_err-read_end.ensures.1 in
     rw (p.1, p.2) (record { value = sym (people ∙ quarantine_read bytes size text place q due ∙ end_fault bytes (place_after bytes place) (with_quarantine text q) _ over); counts = tt; idle = tt })
 
 pub returns : goal.returns

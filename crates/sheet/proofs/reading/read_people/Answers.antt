@@ -33,6 +33,6 @@ returns c =
 pub returns-in_err-size : goal.returns-in_err-size
 returns-in_err-size c =
     let reader = c.args.reader.now in
-    let p = err_from_is_err_and c.from-residual.result c.from-residual.ensures.1 in
+    let p = err_from_is_err_and c.from_residual.result c.from_residual.ensures.1 in
     let due = ap (λ (at : ℕ). size_due (input reader) at) (sym c.requires) ∙ sym c.in_err-size.ensures.value in
     rw (p.1, p.2) (record { value = size_fault (input reader) _ due; input = c.in_err-size.ensures.input; few = tt; idle = tt; counts = tt })

@@ -26,7 +26,7 @@ returns-in_err-field c =
     let before = c.loop-number.invariant in
     let read = c.in_err-field.ensures in
     let due = ap (λ (b : List ℕ). field_due (NextTenant c.loop-number.lowest) size b place) (sym before.0) ∙ sym read.value in
-    let p = err_from_is_err_and c.from-residual.result c.from-residual.ensures.1 in
+    let p = err_from_is_err_and c.from_residual.result c.from_residual.ensures.1 in
     rw (p.1, p.2) (record {
       value = λ rows.
           ap text_and_place (sym (before.3 rows ∙ tenant_cut size.tenants c.loop-number.number size bytes (record { place = place; lowest = c.loop-number.lowest; text = tenants_text rows c.loop-number.tenants }) _ (omega arith) due));
@@ -44,7 +44,7 @@ returns-in_err-add c =
     let read = c.in_ok-field.ensures in
     let field = field_of c.in_ok-field.field in
     let due = ap (λ (b : List ℕ). field_due (NextTenant c.loop-number.lowest) size b place) (sym before.0) ∙ sym read.value in
-    let p = err_from_is_err_and c.from-residual-in_err-add.result c.from-residual-in_err-add.ensures.1 in
+    let p = err_from_is_err_and c.from_residual-in_err-add.result c.from_residual-in_err-add.ensures.1 in
     rw (p.1, p.2) (record {
       value = λ rows.
           ap text_and_place (sym (before.3 rows ∙ tenant_fault size.tenants c.loop-number.number size bytes (record { place = place; lowest = c.loop-number.lowest; text = tenants_text rows c.loop-number.tenants }) field _ (omega arith) due

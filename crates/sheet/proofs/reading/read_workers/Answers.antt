@@ -50,7 +50,7 @@ returns-in_err-class c =
     let read = c.in_err-class.ensures in
     let due = ap (λ (b : List ℕ). worker_due c.args.size b place) (sym before.0) ∙ sym read.value in
     let whole = before.5 ∙ workers_fault c.args.size.workers w c.args.size bytes (record { place = place; lowest = 3; text = crew_text (market c.loop-worker.lists) c.loop-worker.classes w }) _ (omega arith) due in
-    let p = err_from_is_err_and c.from-residual.result c.from-residual.ensures.1 in
+    let p = err_from_is_err_and c.from_residual.result c.from_residual.ensures.1 in
     rw (p.1, p.2) (record { value = sym whole; input = read.input ∙ before.0; classes = tt; idle = tt; counts = tt })
 
 pub loop-worker-init : goal.loop-worker-init

@@ -43,10 +43,7 @@ invariant_of-result c =
     let l = c.in-Ok.lists in
     let t = c.one_tenant.result in
     let told = c.one_tenant.ensures in
-    let none = made_lists (market l) (no_lists 1 1) c.in-Ok.ensures in (
-      counted l t c.empty.result c.args.«cap» none told.ranked told.others.0 told.others.1 told.classes c.empty.ensures,
-      (idle t told.classes, (formed l t c.empty.result c.args.«cap» none told.ranked told.others.0 told.others.1 told.classes c.empty.ensures c.requires, tt)),
-    )
+    let none = made_lists (market l) (no_lists 1 1) c.in-Ok.ensures in record { counted = counted l t c.empty.result c.args.«cap» none told.ranked told.others.0 told.others.1 told.classes c.empty.ensures; idle = idle t told.classes; formed = formed l t c.empty.result c.args.«cap» none told.ranked told.others.0 told.others.1 told.classes c.empty.ensures c.requires }
 
 pub returns : goal.returns
 returns c =

@@ -7,4 +7,4 @@ pub invariant_of-result : goal.invariant_of-result
 invariant_of-result c =
     let read = c.in_ok-lists.ensures in
     let said = text_of c.in_ok-lists.lists c.in_ok-lists.tenants c.in_ok-lists.quarantine in
-    (read.counts, (read.idle, (((c.reads_exactly.ensures said).0 (sym read.value)).0, tt)))
+    record { counted = read.counts; idle = read.idle; formed = ((c.reads_exactly.ensures said).0 (sym read.value)).0 }

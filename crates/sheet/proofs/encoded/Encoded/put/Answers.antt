@@ -9,7 +9,7 @@ invariant_of-self c =
     let e = c.args.self.now in
     let long = ap length c.copy_from_slice.ensures.after in
     let room = room_for e (length c.args.bytes.now) c.requires in
-    (putMid_length e.len _ e.bytes c.copy_from_slice.new.self (omega arith) (omega arith) ∙ e.size, (room, tt))
+    record { size = putMid_length e.len _ e.bytes c.copy_from_slice.new.self (omega arith) (omega arith) ∙ e.size; room = room }
 
 pub returns : goal.returns
 returns c =
