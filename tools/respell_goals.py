@@ -13,6 +13,7 @@ RULES = [
     (r"slice-bounds-", "slice_bounds-"),
     (r"offset-bounds-", "offset_bounds-"),
     (r"\bfrom-residual\b", "from_residual"),
+    (r"\binto-iter-gives\b", "into_iter_gives"),
     (r"\binto-iter\b", "into_iter"),
     (r"\btype-inv\b", "type_inv"),
     (r"\bin-default\b", "in_default"),

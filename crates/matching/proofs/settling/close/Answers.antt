@@ -19,7 +19,7 @@ close_one-requires c =
     let rest = coming c.loop-w.w-iterator in
     let w = c.in-Some.w in
     let (in_rest, small) = given_member rest (coming c.next.new.self) w c.in-Some.ensures.steps in
-    let asked : all ≡ members c.args.away = ap coming c.into_iter-w-iterator.ensures.into_iter-gives ∙ c.iter-w-items.ensures in
+    let asked : all ≡ members c.args.away = ap coming c.into_iter-w-iterator.ensures.into_iter_gives ∙ c.iter-w-items.ensures in
     let room = c.requires.open w (sym (same_at asked w) ∙ inv.3 w in_rest) in
     record {
       known = small;
@@ -54,7 +54,7 @@ returns c =
     let old = c.args.closed.now in
     let all = coming c.into_iter-w-iterator.result in
     let rest = coming c.loop-w.w-iterator in
-    let asked : all ≡ members c.args.away = ap coming c.into_iter-w-iterator.ensures.into_iter-gives ∙ c.iter-w-items.ensures in
+    let asked : all ≡ members c.args.away = ap coming c.into_iter-w-iterator.ensures.into_iter_gives ∙ c.iter-w-items.ensures in
     record {
       closed = closed_all old c.loop-w.closed all inv.0 rest (given_none rest (coming c.next.new.self) (members_workers c.loop-w.w-iterator.rest) c.in-None.ensures.steps) inv.1 ∙
           ap (λ (A : Set). tabulate 64 (λ w. get_or old w 0 + cond (A w) 1 0)) asked;
