@@ -1,5 +1,5 @@
 -- What a tenant chooses out of two sets together, by the laws.
-use Rattle.std.proofs.Common.{◌≡◌, ◌≤◌, ◌&&◌, arith}
+use Rattle.std.proofs.Common.{◌≡◌, ◌≤◌, arith}
 use mathlib.Core.Path.{fun_ext}
 use Rattle.fleet.specs.Sets.{Set, Within, Workers, union, minus, size}
 use Rattle.fleet.specs.Members.{members}

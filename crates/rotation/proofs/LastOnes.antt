@@ -1,5 +1,5 @@
 -- The lowest worker on a rotation, one worker more; where none is left the placement is best for the tenants.
-use Rattle.std.proofs.Common.{◌≡◌, ℕ, ◌+◌, true, false, is_some, Some, None, Option, sym, refl, ap, inl, inr, add-one}
+use Rattle.std.proofs.Common.{◌≡◌, ℕ, ◌+◌, false, is_some, Some, None, Option, sym, refl, ap, inl, inr, add-one}
 use Rattle.std.proofs.lemmas.Bool.{cases_lt, true≢false}
 use Rattle.fleet.specs.Sets.{Set, lowest}
 use Rattle.fleet.specs.Market.{Market, Placement}

@@ -1,5 +1,5 @@
 -- What a field that is due says is well formed.
-use Rattle.std.proofs.Common.{◌≡◌, ℕ, ◌+◌, ◌<◌, ◌≤◌, Bool, true, ltb, List, [], ◌∷◌, get_or, Ok, refl, arith}
+use Rattle.std.proofs.Common.{◌≡◌, ℕ, ◌+◌, ◌<◌, ◌≤◌, true, ltb, List, [], ◌∷◌, get_or, Ok, refl, arith}
 use Rattle.std.proofs.lemmas.Bool.{and_parts, and_from}
 use Rattle.std.proofs.lemmas.Bool.Decides.{nat_tests}
 use Rattle.fleet.specs.Sets.{all_under}
@@ -9,7 +9,7 @@ use Rattle.sheet.specs.declared.fields.Kind.TheVariants.{Counts, Worker, Quarant
 use Rattle.sheet.specs.declared.fields.Size.{Size}
 use Rattle.sheet.specs.Fields.{Field, field_due}
 use Rattle.sheet.specs.Sheets.{is_list, good_worker}
-use Rattle.sheet.specs.Reading.{worker_row, size_of, no_size}
+use Rattle.sheet.specs.Reading.{worker_row, size_of}
 use Rattle.sheet.proofs.Rows.{good_size, counts_rows, worker_rows, quarantine_rows}
 use Rattle.sheet.proofs.FieldRead.{came_only}
 

@@ -1,7 +1,7 @@
 -- The fields handed out, written one after the other, are the bytes that were read.
 use Rattle.std.proofs.Common.{◌≡◌, ℕ, zero, suc, ◌+◌, ◌-◌, ◌/◌, ◌%◌, ◌<◌, ◌≤◌, true, false, eqb, ltb, ◌⊎◌, List, [], ◌∷◌, ◌++◌, length, get_or, take, drop, sym, refl, ap, ◌∙◌, inl, inr, append_assoc, arith, length-drop, length-take, take-add}
 use Rattle.std.specs.List.{flat_map}
-use Rattle.std.proofs.lemmas.List.{append-nil, drop_more, length-take-le}
+use Rattle.std.proofs.lemmas.List.{append-nil, drop_more}
 use Rattle.std.proofs.lemmas.Bool.{cases_Bool, or_parts, ltb-false}
 use Rattle.sheet.specs.Framing.{field_bytes, frame_at, fields_in, place_after, cut_off, stated_length, whole_field}
 use Rattle.sheet.specs.Laws.{Bytes, handed_out, reached, FieldsAreTheBytes}

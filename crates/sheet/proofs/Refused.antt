@@ -1,7 +1,6 @@
 -- A table of the right size is refused for its entries.
-use Rattle.std.proofs.Common.{◌≡◌, ℕ, ◌^◌, Bool, true, false, eqb, ltb, leb, List, length, Some, None, Ok, Err, Option, sym, refl, ◌∙◌, arith}
+use Rattle.std.proofs.Common.{◌≡◌, ℕ, ◌^◌, true, eqb, leb, List, length, Some, None, Err, Option, sym, refl, ◌∙◌, arith}
 use Rattle.std.proofs.lemmas.Bool.{leb-true, le-ltb}
-use Rattle.policy.specs.Tables.{TableRule}
 use Rattle.policy.specs.Faults.{table_fault}
 use Rattle.policy.specs.Entries.{unless, making}
 use Rattle.policy.specs.declared.fault.TableFault.{TableFault}

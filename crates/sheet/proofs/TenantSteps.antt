@@ -1,11 +1,9 @@
 -- Reading the tenants one by one: what is left to read, how many there are, and that their contents are good.
-use Rattle.std.proofs.Common.{◌≡◌, ℕ, suc, ◌+◌, ◌-◌, ◌^◌, ◌<◌, ◌≤◌, Bool, true, false, ◌&&◌, eqb, leb, List, [], ◌∷◌, ◌++◌, length, get_or, Some, None, Ok, Err, Option, Result, sym, refl, ap, ◌∙◌, arith}
+use Rattle.std.proofs.Common.{◌≡◌, ℕ, suc, ◌+◌, ◌-◌, ◌^◌, ◌<◌, ◌≤◌, true, ◌&&◌, eqb, leb, List, [], ◌∷◌, ◌++◌, length, get_or, Some, None, Ok, Err, Option, Result, refl, ap, ◌∙◌, arith}
 use Rattle.std.proofs.lemmas.List.{length_push}
 use Rattle.std.proofs.lemmas.Bool.{and_parts, and_from}
 use Rattle.std.proofs.lemmas.Bool.Decides.{nat_tests}
 use Rattle.fleet.specs.Sets.{all_under}
-use Rattle.policy.specs.Kinds.{RankedRule, SeatedRule}
-use Rattle.policy.specs.Tables.{TableRule}
 use Rattle.policy.specs.declared.fault.TableFault.{TableFault}
 use Rattle.sheet.specs.declared.faults.FieldFault.{FieldFault}
 use Rattle.sheet.specs.declared.faults.SheetFault.{SheetFault}
@@ -16,7 +14,7 @@ use Rattle.sheet.specs.declared.fields.Kind.TheVariants.{Counts, Worker, Ranked,
 use Rattle.sheet.specs.declared.fields.Size.{Size}
 use Rattle.sheet.specs.Framing.{place_after}
 use Rattle.sheet.specs.Fields.{Field, field_due, kind_due, tag_of}
-use Rattle.sheet.specs.Sheets.{SheetText, tenants_in, broken_law, is_list, good_ranked, good_seated}
+use Rattle.sheet.specs.Sheets.{SheetText, tenants_in, broken_law, is_list}
 use Rattle.sheet.specs.Reading.{Progress, and_then, lifted, tenant_text, with_table, read_tenants, good_tenant, ranked_row, seated_row, table_row}
 use Rattle.sheet.proofs.Rows.{ranked_rows, seated_rows, table_rows}
 use Rattle.sheet.proofs.FieldRead.{read_came}

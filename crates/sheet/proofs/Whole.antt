@@ -1,5 +1,5 @@
 -- Reading a whole sheet, part after part: each part that is read leaves the rest to read, and its fault is the sheet's.
-use Rattle.std.proofs.Common.{◌≡◌, ℕ, Bool, true, false, cond, ltb, List, length, Some, None, Ok, Err, Option, Result, sym, refl, ap, ◌∙◌, ap₂, arith}
+use Rattle.std.proofs.Common.{◌≡◌, ℕ, Bool, true, false, ltb, List, length, Some, None, Ok, Err, Result, sym, refl, ap, ◌∙◌, ap₂, arith}
 use Rattle.sheet.specs.declared.faults.FieldFault.{FieldFault}
 use Rattle.sheet.specs.declared.faults.SheetFault.{SheetFault}
 use Rattle.sheet.specs.declared.faults.SheetFault.TheVariants as fault
@@ -8,7 +8,7 @@ use Rattle.sheet.specs.declared.fields.Size.{Size}
 use Rattle.sheet.specs.Framing.{place_after}
 use Rattle.sheet.specs.Fields.{Field, field_due}
 use Rattle.sheet.specs.Sheets.{SheetText}
-use Rattle.sheet.specs.Reading.{Progress, and_then, lifted, made_of, no_size, no_text, size_of, size_due, quarantine_due, end_due, read_workers, read_tenants, read_end, with_quarantine, text_and_place, after_tenants, decode}
+use Rattle.sheet.specs.Reading.{Progress, and_then, made_of, no_size, no_text, size_of, size_due, quarantine_due, end_due, read_workers, read_tenants, read_end, with_quarantine, text_and_place, after_tenants, decode}
 
 module _ (bytes : List ℕ) where
   -- what is left to read after the workers and after the counts

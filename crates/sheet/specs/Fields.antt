@@ -1,5 +1,5 @@
 -- Layer 2. What a field may hold: which tags are due, how long its content is, and the ranges of its numbers.
-use Rattle.std.specs.Prelude.{ℕ, ◌+◌, ◌-◌, Bool, true, false, cond, not, ◌&&◌, List, [], length, take, drop, is_some, Some, None, Ok, Err, Option, Result, ◌==◌, nat_eq, nat_le, nat_lt, slice_index}
+use Rattle.std.specs.Prelude.{ℕ, ◌+◌, ◌-◌, Bool, cond, not, ◌&&◌, List, length, take, drop, is_some, Some, None, Ok, Err, Option, Result, ◌==◌, nat_eq, nat_le, nat_lt, slice_index}
 use Rattle.std.specs.Option.{unwrap_or}
 use Rattle.fleet.specs.Sets.{among}
 use Rattle.policy.specs.Search.{seek}

@@ -4,7 +4,6 @@ use Rattle.sheet.specs.declared.faults.FieldFault.{FieldFault}
 use Rattle.sheet.specs.declared.faults.FieldFault.TheVariants.{Length, Surplus}
 use Rattle.sheet.specs.declared.faults.SheetFault.{SheetFault}
 use Rattle.sheet.specs.declared.faults.SheetFault.TheVariants as fault
-use Rattle.sheet.specs.declared.fields.Due.{Due}
 use Rattle.sheet.specs.declared.fields.Due.TheVariants.{First, NextWorker, NextTenant, Last}
 use Rattle.sheet.specs.declared.fields.Kind.{Kind}
 use Rattle.sheet.specs.declared.fields.Kind.TheVariants.{Counts, Worker, Ranked, Seated, Table, Quarantine}

@@ -1,5 +1,5 @@
 -- What a sheet says, and the market that it says.
-use Rattle.std.specs.Prelude.{ℕ, List, [], ◌∷◌, map, length, Ok, Err, Result, slice_index_or}
+use Rattle.std.specs.Prelude.{ℕ, [], ◌∷◌, map, length, Ok, Err, Result, slice_index_or}
 use Rattle.fleet.specs.Sets.{Set, among}
 use Rattle.fleet.specs.Market.{Market}
 use Rattle.policy.specs.Choice.{Policy}

@@ -7,7 +7,6 @@ use Rattle.policy.specs.Choice.{Policy}
 use Rattle.sheet.specs.Says.{text, market_said, policy_of, policy_said}
 use Rattle.matching.specs.Entries.{tabulate}
 use Rattle.matching.specs.Settling.{settled_placement, settled_rounds}
-use Rattle.report.specs.declared.Outcome.{Outcome}
 use Rattle.report.specs.declared.Outcome.TheVariants.{Settled}
 use Rattle.report.proofs.settled.Goals as goal
 

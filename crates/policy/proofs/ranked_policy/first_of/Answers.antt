@@ -1,5 +1,5 @@
 -- A turn of the loop is a turn of the walk, and the walk takes the first so many.
-use Rattle.std.proofs.Common.{◌≡◌, ℕ, Bool, true, ltb, get_or, sym, ap, ◌∙◌}
+use Rattle.std.proofs.Common.{◌≡◌, ℕ, true, ltb, get_or, sym, ap, ◌∙◌}
 use Rattle.std.proofs.lemmas.Bool.{and_left, and_right}
 use Rattle.fleet.specs.Sets.{among}
 use Rattle.fleet.specs.Members.{members}

@@ -1,5 +1,5 @@
 -- One number more, and the end; and what the test tells of each place.
-use Rattle.std.proofs.Common.{◌≡◌, Bool, true, false, sym, ◌∙◌}
+use Rattle.std.proofs.Common.{sym, ◌∙◌}
 use Rattle.std.proofs.lemmas.Bool.{false≢true}
 use Rattle.fleet.proofs.Different.{under_here, under_more, under_end}
 use Rattle.policy.proofs.Bounds.{under_at}

@@ -1,10 +1,9 @@
 -- A refused table is refused for its entries.
-use Rattle.std.proofs.Common.{◌≡◌, ℕ, ◌-◌, ◌^◌, true, ◌&&◌, eqb, leb, List, length, take, drop, Ok, Err, Option, Result, sym, ap, ◌∙◌, ap₂, arith}
+use Rattle.std.proofs.Common.{◌≡◌, ℕ, ◌-◌, ◌^◌, ◌&&◌, eqb, leb, length, take, drop, Err, Option, sym, ap, ◌∙◌, ap₂, arith}
 use native.Mathlib.Nat.{sub-zero}
 use Rattle.std.proofs.lemmas.List.{length-take-le}
 use Rattle.std.proofs.lemmas.Bool.{and_parts}
 use Rattle.fleet.specs.Rankings.{listed}
-use Rattle.policy.specs.Tables.{TableRule}
 use Rattle.policy.specs.Entries.{tables, making}
 use Rattle.policy.specs.declared.fault.TableFault.{TableFault}
 use Rattle.sheet.specs.declared.faults.SheetFault.{SheetFault}

@@ -1,5 +1,5 @@
 -- The search for a number outside its range, turn by turn.
-use Rattle.std.proofs.Common.{◌≡◌, ℕ, ◌<◌, ◌≤◌, Bool, not, length, get_or, sym, ap, ◌∙◌, arith}
+use Rattle.std.proofs.Common.{ℕ, ◌<◌, ◌≤◌, Bool, not, length, get_or, sym, ap, ◌∙◌, arith}
 use Rattle.policy.specs.Searches.{seek_hit, seek_miss, seek_end}
 use Rattle.sheet.specs.Fields.{in_range, list_end}
 use Rattle.sheet.proofs.contents.first_out_of_range.Goals as goal

@@ -1,5 +1,5 @@
 -- The search for a number that stands twice, turn by turn.
-use Rattle.std.proofs.Common.{◌≡◌, ℕ, ◌-◌, ◌<◌, Bool, true, false, length, get_or, take, set, sym, refl, ap, ◌∙◌, arith, length-set}
+use Rattle.std.proofs.Common.{◌≡◌, ℕ, ◌-◌, ◌<◌, Bool, true, false, length, get_or, take, set, sym, refl, ◌∙◌, arith, length-set}
 use Rattle.std.proofs.lemmas.List.{get_or-replicate}
 use Rattle.fleet.specs.Sets.{among}
 use Rattle.policy.specs.Searches.{seek_hit, seek_miss, seek_end}

@@ -1,5 +1,5 @@
 -- A content longer than 264 is no table's, and a table has no more workers than numbers.
-use Rattle.std.proofs.Common.{◌≡◌, ℕ, ◌+◌, ◌^◌, ◌<◌, ◌≤◌, Some, None, Option, sym, refl, ap, ◌∙◌, arith}
+use Rattle.std.proofs.Common.{◌≡◌, ℕ, ◌<◌, Some, None, Option, sym, refl, arith}
 use native.Mathlib.Nat.{pow-le-pow_right}
 use Rattle.sheet.specs.Fields.{table_workers}
 use Rattle.sheet.proofs.TableSizes.{table_found}

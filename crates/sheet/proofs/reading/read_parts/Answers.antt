@@ -3,8 +3,8 @@ use Rattle.std.proofs.Common.{◌≡◌, ℕ, List, sym, ap, ◌∙◌, ap₂}
 use Rattle.std.proofs.lemmas.Result.{err_from_is_err_and}
 use Rattle.fleet.specs.Lists.{market}
 use Rattle.fleet.specs.Rankings.{listed}
-use Rattle.sheet.specs.Framing.{input, place_after}
-use Rattle.sheet.specs.Sheets.{SheetText, rows_of}
+use Rattle.sheet.specs.Framing.{place_after}
+use Rattle.sheet.specs.Sheets.{rows_of}
 use Rattle.sheet.specs.Reading.{quarantine_due, end_due, tenants_text, with_quarantine, decode, after_tenants}
 use Rattle.sheet.proofs.Whole.{quarantine_read, quarantine_fault, end_read, end_fault}
 use Rattle.sheet.proofs.reading.read_parts.Goals as goal

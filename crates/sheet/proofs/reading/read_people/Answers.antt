@@ -1,10 +1,10 @@
 -- The counts, the workers and the tenants are read, and the first fault is the sheet's.
-use Rattle.std.proofs.Common.{◌≡◌, ℕ, List, get_or, sym, refl, ap, ◌∙◌, arith}
+use Rattle.std.proofs.Common.{ℕ, List, get_or, sym, refl, ap, ◌∙◌, arith}
 use Rattle.std.proofs.lemmas.Result.{err_from_is_err_and}
 use Rattle.fleet.specs.Lists.{market}
 use Rattle.sheet.specs.Framing.{input}
 use Rattle.sheet.specs.Sheets.{rows_of}
-use Rattle.sheet.specs.Reading.{size_due, tenants_text, crew_text, decode, after_tenants}
+use Rattle.sheet.specs.Reading.{size_due, tenants_text, crew_text, after_tenants}
 use Rattle.sheet.proofs.Whole.{size_fault, read_to_quarantine}
 use Rattle.sheet.proofs.reading.read_people.Goals as goal
 

@@ -1,7 +1,6 @@
 -- The counts that are due are in range.
 use Rattle.std.proofs.Common.{◌≡◌, ℕ, ◌&&◌, leb, List, get_or, Ok, sym, ap, ◌∙◌, ap₂, arith}
 use Rattle.std.proofs.lemmas.Bool.{and_parts, leb-true}
-use Rattle.sheet.specs.declared.fields.Size.{Size}
 use Rattle.sheet.specs.Framing.{input}
 use Rattle.sheet.specs.Fields.{field_of}
 use Rattle.sheet.specs.Reading.{size_of, no_size, made_of}

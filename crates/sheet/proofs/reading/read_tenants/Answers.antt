@@ -1,12 +1,10 @@
 -- One tenant more, or its fault.
-use Rattle.std.proofs.Common.{◌≡◌, ℕ, ◌+◌, ◌-◌, List, [], length, Ok, Err, Result, sym, ap, ◌∙◌, ap₂, arith}
+use Rattle.std.proofs.Common.{◌≡◌, ℕ, ◌+◌, ◌-◌, List, [], sym, ap, ◌∙◌, ap₂, arith}
 use Rattle.std.proofs.lemmas.Result.{err_from_is_err_and}
-use Rattle.sheet.specs.declared.faults.SheetFault.{SheetFault}
 use Rattle.sheet.specs.declared.fields.Due.TheVariants.{NextTenant}
 use Rattle.sheet.specs.Framing.{input, place_after}
-use Rattle.sheet.specs.Fields.{Field, field_of, field_due, tag_of}
-use Rattle.sheet.specs.Sheets.{WorkerRow}
-use Rattle.sheet.specs.Reading.{Progress, read_tenants, rows_text, tenants_text, text_and_place, tenant_text}
+use Rattle.sheet.specs.Fields.{field_of, field_due}
+use Rattle.sheet.specs.Reading.{read_tenants, tenants_text, text_and_place}
 use Rattle.sheet.proofs.TenantSteps.{tenants_more, tenant_cut, tenant_fault, one_more, tenant_due}
 use Rattle.sheet.proofs.reading.read_tenants.Goals as goal
 

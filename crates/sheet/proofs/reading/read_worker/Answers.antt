@@ -1,10 +1,9 @@
 -- The worker that is due is good, so its list is ranked whole.
-use Rattle.std.proofs.Common.{◌≡◌, ℕ, true, ltb, List, get_or, drop, Ok, Result, sym, ap, ◌∙◌, ap₂}
+use Rattle.std.proofs.Common.{◌≡◌, ℕ, ltb, List, get_or, drop, Ok, sym, ap, ◌∙◌, ap₂}
 use Rattle.std.proofs.lemmas.Bool.{and_parts}
 use Rattle.fleet.specs.Rankings.{listed}
-use Rattle.sheet.specs.declared.faults.FieldFault.{FieldFault}
 use Rattle.sheet.specs.Framing.{input}
-use Rattle.sheet.specs.Fields.{Field, field_of}
+use Rattle.sheet.specs.Fields.{field_of}
 use Rattle.sheet.specs.Sheets.{WorkerRow, is_list, good_worker}
 use Rattle.sheet.specs.Reading.{worker_row, made_of}
 use Rattle.sheet.proofs.DueRows.{list_wider, worker_good}

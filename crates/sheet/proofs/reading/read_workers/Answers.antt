@@ -1,5 +1,5 @@
 -- One worker more, or its fault.
-use Rattle.std.proofs.Common.{◌≡◌, ℕ, ◌+◌, ◌-◌, ◌<◌, true, ltb, ◌≢◌, List, length, set, Ok, Err, sym, refl, ap, ◌∙◌, ap₂, arith, length-set, rules}
+use Rattle.std.proofs.Common.{◌≡◌, ℕ, ◌+◌, ◌-◌, true, ltb, ◌≢◌, List, set, Ok, sym, refl, ap, ◌∙◌, ap₂, arith, length-set, rules}
 use Rattle.std.proofs.lemmas.List.{get_or-set_other}
 use Rattle.std.proofs.lemmas.Result.{err_from_is_err_and}
 use Rattle.std.proofs.lemmas.Bool.{and_parts, ltb-true}
@@ -9,7 +9,7 @@ use Rattle.fleet.specs.Lists.{market, with_list}
 use Rattle.fleet.specs.Rankings.{listed}
 use Rattle.sheet.specs.Framing.{input, place_after}
 use Rattle.sheet.specs.Sheets.{WorkerRow, is_list}
-use Rattle.sheet.specs.Reading.{worker_due, read_workers, crew_text, crew_progress}
+use Rattle.sheet.specs.Reading.{worker_due, read_workers, crew_text}
 use Rattle.sheet.proofs.Lists.{under_set, zeros}
 use Rattle.sheet.proofs.Crew.{list_set, crew_more, workers_fault}
 use Rattle.sheet.proofs.reading.read_workers.Goals as goal

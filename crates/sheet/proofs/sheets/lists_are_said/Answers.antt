@@ -1,10 +1,8 @@
 -- The counts and each worker's list, from Said.
-use Rattle.std.proofs.Common.{◌≡◌, ℕ, List, sym, ap, ◌∙◌}
+use Rattle.std.proofs.Common.{◌≡◌, ℕ, List, sym}
 use mathlib.Core.Path.{fun_ext}
 use Rattle.fleet.specs.Lists.{market}
 use Rattle.fleet.specs.Market.{Market}
-use Rattle.sheet.specs.Sheets.{tenants_in}
-use Rattle.sheet.specs.Says.{text}
 use Rattle.sheet.proofs.Said.{rows_length, list_said}
 use Rattle.sheet.proofs.sheets.lists_are_said.Goals as goal
 

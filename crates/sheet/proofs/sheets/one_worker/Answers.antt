@@ -12,7 +12,7 @@ use Rattle.policy.specs.Ranks.{ranks}
 use Rattle.policy.specs.Seats.{seats}
 use Rattle.policy.specs.Entries.{tables}
 use Rattle.sheet.specs.declared.tenants.Tenants.{Tenants}
-use Rattle.sheet.specs.Sheets.{SheetText, rows_of, tenants_in, well_formed}
+use Rattle.sheet.specs.Sheets.{rows_of, tenants_in, well_formed}
 use Rattle.sheet.specs.Texts.{text_of}
 use Rattle.sheet.specs.Says.{one_worker_text}
 use Rattle.sheet.proofs.Lists.{zeros}

@@ -1,5 +1,5 @@
 -- Only the classes are said otherwise: by the rows.
-use Rattle.std.proofs.Common.{ℕ, length, ap, ◌∙◌}
+use Rattle.std.proofs.Common.{length, ap, ◌∙◌}
 use Rattle.fleet.specs.Sets.{Set, among}
 use Rattle.fleet.specs.Lists.{market}
 use Rattle.fleet.specs.Rankings.{listed}

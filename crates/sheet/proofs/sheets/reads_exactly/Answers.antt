@@ -1,5 +1,5 @@
 -- Both directions, from ReadIsWritten and WrittenIsRead.
-use Rattle.std.proofs.Common.{◌≡◌, sym, ap, ◌∙◌}
+use Rattle.std.proofs.Common.{sym, ap, ◌∙◌}
 use Rattle.sheet.specs.Reading.{decode}
 use Rattle.sheet.proofs.ReadIsWritten.{read_is_written}
 use Rattle.sheet.proofs.WrittenIsRead.{written_is_read}

@@ -4,7 +4,6 @@ use mathlib.Core.Path.{fun_ext}
 use Rattle.std.proofs.lemmas.List.{take_more, take_all}
 use Rattle.std.proofs.lemmas.Bool.Decides.{nat_tests}
 use Rattle.fleet.specs.Sets.{Set, among, with_worker}
-use Rattle.fleet.specs.Rankings.{listed}
 use Rattle.fleet.proofs.Different.{among_getD, among_push}
 use Rattle.sheet.proofs.sheets.set_of.Goals as goal
 

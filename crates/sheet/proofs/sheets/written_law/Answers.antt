@@ -1,5 +1,4 @@
 -- A sheet is well formed, so its bytes are few, are read again, and are its own.
-use Rattle.std.proofs.Common.{sym}
 use Rattle.sheet.specs.Says.{text}
 use Rattle.sheet.proofs.Short.{short}
 use Rattle.sheet.proofs.WrittenIsRead.{written_is_read, one_sheet}

@@ -59,37 +59,7 @@ invariant_of-self c =
     let r : Rotation = c.as_slice-moves.result.now in
     let ms = c.put.new.into in
     let e = c.put.ensures in
-    let room = move_room t (listing c.args.rotation.now) (one_more t (listing c.args.rotation.now) c.requires.down c.requires.some) in (
-      length_laid t.moves r ms t.len (omega (arith, t.fits, t.rooms)) e (omega (arith, t.rooms, room, ap length c.as_slice-moves.ensures)) ∙ t.rooms,
-      (
-        t.slots,
-        (
-          t.few,
-          (
-            t.stacked,
-            (
-              t.fits,
-              (
-                t.slip,
-                (
-                  t.known,
-                  (
-                    t.numbers,
-                    (
-                      lead t r ms c.requires.shut e,
-                      (
-                        reach t r ms c.requires.shut e,
-                        tt,
-                      ),
-                    ),
-                  ),
-                ),
-              ),
-            ),
-          ),
-        ),
-      ),
-    )
+    let room = move_room t (listing c.args.rotation.now) (one_more t (listing c.args.rotation.now) c.requires.down c.requires.some) in record { rooms = length_laid t.moves r ms t.len (omega (arith, t.fits, t.rooms)) e (omega (arith, t.rooms, room, ap length c.as_slice-moves.ensures)) ∙ t.rooms; slots = t.slots; few = t.few; stacked = t.stacked; fits = t.fits; slip = t.slip; known = t.known; numbers = t.numbers; leading = lead t r ms c.requires.shut e; reached = reach t r ms c.requires.shut e }
 
 pub returns : goal.returns
 returns c =

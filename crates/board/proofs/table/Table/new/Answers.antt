@@ -11,37 +11,7 @@ use Rattle.board.proofs.table.Table.new.Goals as goal
 pub invariant_of-result : goal.invariant_of-result
 invariant_of-result c =
     let m = market c.args.lists in
-    let l = c.args.settled.places in (
-      refl,
-      (
-        refl,
-        (
-          omega arith,
-          (
-            refl,
-            (
-              omega arith,
-              (
-                omega arith,
-                (
-                  omega arith,
-                  (
-                    omega arith,
-                    (
-                      ap (λ (rs : List Rotation). leads m l (rs ++ [])) (cut_none _) ∙ none_leads m l,
-                      (
-                        (λ w. ap (λ (rs : List Rotation). place (led_to l rs) w) (cut_none _) ∙ ap (λ (k : List ℕ). place k w) (led_to_none l)),
-                        tt,
-                      ),
-                    ),
-                  ),
-                ),
-              ),
-            ),
-          ),
-        ),
-      ),
-    )
+    let l = c.args.settled.places in record { rooms = refl; slots = refl; few = omega arith; stacked = refl; fits = omega arith; slip = omega arith; known = omega arith; numbers = omega arith; leading = ap (λ (rs : List Rotation). leads m l (rs ++ [])) (cut_none _) ∙ none_leads m l; reached = (λ w. ap (λ (rs : List Rotation). place (led_to l rs) w) (cut_none _) ∙ ap (λ (k : List ℕ). place k w) (led_to_none l)) }
 
 pub returns : goal.returns
 returns c = record {

@@ -1,5 +1,5 @@
 -- One move more is on the list.
-use Rattle.std.proofs.Common.{◌≡◌, ℕ, List, [], ◌∷◌, ◌++◌, get_or, sym, ap, ◌∙◌, arith}
+use Rattle.std.proofs.Common.{List, [], ◌∷◌, ◌++◌, get_or, sym, ap, ◌∙◌, arith}
 use Rattle.std.proofs.lemmas.List.{take_more, take_all}
 use Rattle.fleet.specs.declared.Move.{Move}
 use Rattle.rotation.proofs.move_list.MoveList.of.Goals as goal
