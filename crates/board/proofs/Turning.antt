@@ -1,5 +1,5 @@
 -- A turn at a table: an open that is refused ends it, and one that is accepted leads to a commit that is, with room for its events.
-use Rattle.std.proofs.Common.{◌≡◌, ℕ, suc, ◌+◌, ◌<◌, ◌≤◌, true, ◌⊎◌, List, [], ◌∷◌, ◌++◌, length, take, drop, Ok, Err, sum_by, Result, sym, refl, ap, ◌∙◌, subst, ap₂, inl, inr, append_assoc, arith, length-append, length-take}
+use Rattle.std.proofs.Common.{◌≡◌, ℕ, suc, ◌+◌, ◌≤◌, true, List, [], ◌∷◌, ◌++◌, length, take, drop, Ok, Err, Result, sym, refl, ap, ◌∙◌, ap₂, inl, inr, append_assoc, arith, length-append, length-take}
 use Rattle.std.proofs.lemmas.List.{take_at, drop_at, drop-drop, take-append-drop}
 use Rattle.fleet.specs.Market.{Market}
 use Rattle.fleet.specs.Lists.{market}
@@ -12,16 +12,16 @@ use Rattle.rotation.proofs.Walks.{rotation_found}
 use Rattle.runs.specs.States.{Rotation, State, Ticket, Answer}
 use Rattle.runs.specs.States.Ticket.{blank, numbered}
 use Rattle.runs.specs.States.Call.{open_for, commit}
-use Rattle.runs.specs.States.Answer.{refused, accepted}
+use Rattle.runs.specs.States.Answer.{accepted}
 use Rattle.runs.specs.Calls.{event, events, own_move, drained, committing, answer}
 use Rattle.runs.specs.Onward.{Course, turn, weight}
 use Rattle.runs.proofs.Bounds.{length_events}
 use Rattle.runs.proofs.Descent.{descends_few}
 use Rattle.runs.proofs.Falls.{rotation_descends, rotation_two}
-use Rattle.runs.proofs.Onward.{Stops, Moves, turn_is, stops_turn, moves_turn}
+use Rattle.runs.proofs.Onward.{Moves, turn_is, stops_turn, moves_turn}
 use Rattle.board.specs.declared.table.Table.{Table}
 use Rattle.board.specs.Answers.{count_in, slip_after, ticket_of}
-use Rattle.board.specs.Shown.{standing_in, state, called, Keeps}
+use Rattle.board.specs.Shown.{state, called, Keeps}
 use Rattle.board.proofs.Held.{one_more, move_room, count_room, standing_long, standing_moves}
 
 err≢ok : (a b : ℕ) → ◌≡◌ {A = Result ℕ ℕ} (Err a) (Ok b) → ⊥

@@ -1,14 +1,14 @@
 -- A new board that moves on: its events, its next number, and that it ends at the placement that is best for all tenants.
-use Rattle.std.proofs.Common.{◌≡◌, ℕ, List, ◌++◌, length, take, drop, sym, refl, ap, ◌∙◌, subst, ap₂, arith}
+use Rattle.std.proofs.Common.{◌≡◌, ℕ, List, length, take, drop, refl, ap, ◌∙◌, subst, ap₂, arith}
 use Rattle.std.proofs.lemmas.List.{take_at}
-use Rattle.fleet.specs.Market.{Market, Sound, Placement}
+use Rattle.fleet.specs.Market.{Market, Sound}
 use Rattle.fleet.specs.declared.Event.{Event}
 use Rattle.policy.specs.Choice.{Policy}
 use Rattle.matching.specs.Entries.{place}
 use Rattle.matching.specs.Stable.{Stable, TenantBest}
 use Rattle.runs.specs.States.{State}
 use Rattle.runs.specs.Calls.{settled_list, made}
-use Rattle.runs.specs.Onward.{Course, MovedOn}
+use Rattle.runs.specs.Onward.{MovedOn}
 use Rattle.runs.specs.Laws.{NeverStopped}
 use Rattle.board.proofs.Advancing.{moved_same}
 use Rattle.plans.specs.Outcomes.{day_of}

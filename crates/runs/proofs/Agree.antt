@@ -1,5 +1,5 @@
 -- The laws over every run: stable placements, commits to the next one, no rotation left at the best, and boards that agree where the same rotations stand.
-use Rattle.std.proofs.Common.{◌≡◌, ℕ, ◌+◌, Bool, true, false, ◌⊎◌, ◌↔◌, List, length, Some, None, Option, sym, refl, ap, ◌∙◌, subst, inl, inr, arith}
+use Rattle.std.proofs.Common.{◌≡◌, ℕ, ◌+◌, Bool, true, false, ◌⊎◌, ◌↔◌, List, length, Some, None, Option, sym, refl, ap, ◌∙◌, subst, arith}
 use Rattle.fleet.specs.Market.{Market, Placement}
 use Rattle.fleet.specs.declared.Event.{Event}
 use Rattle.fleet.proofs.First.{Some≢None}

@@ -7,7 +7,7 @@ use Rattle.matching.specs.Entries.{place}
 use Rattle.rotation.specs.Moves.{reversed, rotation_at}
 use Rattle.runs.specs.States.{Rotation, Drain, State, Call}
 use Rattle.runs.specs.States.Call.{open_for, commit, withdraw, back, rewind}
-use Rattle.runs.specs.Calls.{event, events, short, matches, last_of, returns, own_move, drained, opening, open_on, committing, withdrawing, backing, back_over, rewinding, rewind_to, respond, request, settled_list, call, made, told, run, run_events}
+use Rattle.runs.specs.Calls.{event, events, short, matches, last_of, returns, own_move, drained, opening, open_on, committing, withdrawing, backing, back_over, rewinding, rewind_to, respond, request, settled_list, call, told}
 
 -- what holds of the state and the events after each change holds after every call
 module _ (m : Market) (C : Policy) (s : State) (P : State → List Event → Type 0) (stays : P s [])

@@ -15,7 +15,7 @@ use Rattle.rotation.proofs.Listed.{carried_rise, moves_on}
 use Rattle.rotation.proofs.Moved.{length_moved}
 use Rattle.rotation.proofs.Rotates.{rotates_fits, group_dest}
 use Rattle.runs.specs.States.{Rotation}
-use Rattle.runs.specs.Descent.{goes_down, descends, leads}
+use Rattle.runs.specs.Descent.{descends, leads}
 use Rattle.runs.proofs.Descent.{GoesDown, none_down, more_down, none_leads, more_leads}
 use Rattle.runs.proofs.Routes.{Route}
 use Rattle.runs.proofs.Kept.{placed_after}

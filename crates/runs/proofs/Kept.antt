@@ -1,5 +1,5 @@
 -- What every call keeps: the standing rotations are a route from the settled placement to the present one, and a drain holds a rotation there.
-use Rattle.std.proofs.Common.{◌≡◌, ℕ, true, false, List, [], ◌∷◌, ◌++◌, length, Some, None, Option, sym, refl, ap, ◌∙◌, subst}
+use Rattle.std.proofs.Common.{◌≡◌, ℕ, true, false, List, [], ◌∷◌, ◌++◌, length, Some, sym, refl, ap, ◌∙◌, subst}
 use mathlib.Core.Path.{fun_ext}
 use Rattle.fleet.specs.Market.{Market, Sound, Placement}
 use Rattle.fleet.specs.declared.Event.{Event}
@@ -14,7 +14,7 @@ use Rattle.rotation.proofs.Moved.{Fits, length_moved, place_moved, applied_rever
 use Rattle.rotation.proofs.Rotates.{rotates_leaves, rotates_fits}
 use Rattle.rotation.proofs.Walks.{rotation_found}
 use Rattle.runs.specs.States.{Rotation, Drain, State, Call}
-use Rattle.runs.specs.Calls.{last_of, but_last, drained, committing, withdrawing, backing, settled_list, call, made, run, board}
+use Rattle.runs.specs.Calls.{last_of, but_last, drained, committing, withdrawing, backing, call, made, run, board}
 use Rattle.runs.proofs.Routes.{Route, ends, ends_snoc, route_snoc, route_unsnoc}
 use Rattle.runs.proofs.Cases.{call_cases}
 

@@ -1,5 +1,5 @@
 -- What a turn of a board that moves on comes to, and that no rotation is left where the turns end.
-use Rattle.std.proofs.Common.{◌≡◌, ℕ, zero, suc, ◌+◌, ◌-◌, ◌<◌, ◌≤◌, Bool, true, false, cond, eqb, ◌⊎◌, List, [], ◌∷◌, ◌++◌, length, take, drop, Some, None, sum_by, Option, sym, refl, ap, ◌∙◌, subst, ap₂, inl, inr, append_assoc, append-nil, arith, length-append, length-take}
+use Rattle.std.proofs.Common.{◌≡◌, ℕ, zero, suc, ◌+◌, ◌-◌, ◌<◌, ◌≤◌, Bool, true, false, cond, ◌⊎◌, List, [], ◌∷◌, ◌++◌, length, take, drop, Some, None, Option, sym, refl, ap, ◌∙◌, subst, ap₂, inl, inr, append_assoc, append-nil, arith, length-append, length-take}
 use Rattle.std.proofs.lemmas.List.{length_push, take_at, drop_at, drop-drop}
 use Rattle.std.proofs.lemmas.List.Sums.{sum_by_push}
 use Rattle.std.proofs.lemmas.Bool.{eq-eqb, ne_eqb}
@@ -9,7 +9,7 @@ use Rattle.fleet.specs.declared.Event.{Event}
 use Rattle.policy.specs.Choice.{Policy}
 use Rattle.matching.specs.Entries.{place}
 use Rattle.matching.specs.Stable.{Given, Stable, TenantBest}
-use Rattle.rotation.specs.Moves.{Rotates, moved, on_rotation, rotation_at}
+use Rattle.rotation.specs.Moves.{Rotates, on_rotation, rotation_at}
 use Rattle.rotation.proofs.Rotates.{rotates_fits, rotates_stable}
 use Rattle.rotation.proofs.Walks.{rotation_found}
 use Rattle.runs.specs.States.{Rotation, Drain, State, Ticket, Call, Answer}

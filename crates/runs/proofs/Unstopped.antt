@@ -1,8 +1,8 @@
 -- A new board whose first number leaves 1,440 more moves on until no rotation is left: nothing stops it.
-use Rattle.std.proofs.Common.{◌≡◌, ℕ, zero, suc, ◌+◌, ◌-◌, ◌^◌, ◌≤◌, Bool, true, false, List, [], ◌∷◌, ◌++◌, length, is_some, Some, None, sum_by, Option, sym, refl, ap, ◌∙◌, subst, ap₂, inl, inr, arith}
+use Rattle.std.proofs.Common.{◌≡◌, ℕ, zero, suc, ◌+◌, ◌-◌, ◌^◌, ◌≤◌, Bool, true, false, List, [], ◌∷◌, ◌++◌, length, is_some, Some, None, Option, sym, refl, ap, ◌∙◌, subst, ap₂, inl, inr, arith}
 use Rattle.std.proofs.lemmas.List.{length_push}
 use Rattle.std.proofs.lemmas.List.Sums.{sum_by_push}
-use Rattle.std.proofs.lemmas.Bool.{eq-eqb, le-ltb, true≢false}
+use Rattle.std.proofs.lemmas.Bool.{le-ltb, true≢false}
 use Rattle.fleet.specs.Sets.{lowest}
 use Rattle.fleet.specs.Market.{Market, Sound, Placement}
 use Rattle.fleet.proofs.First.{lowest_some}
@@ -11,12 +11,12 @@ use Rattle.matching.specs.Entries.{place}
 use Rattle.matching.specs.Settling.{settled_placement}
 use Rattle.rotation.specs.Moves.{Rotates, on_rotation, rotation_at}
 use Rattle.rotation.proofs.Walks.{rotation_found}
-use Rattle.runs.specs.States.{Rotation, Drain, State, Ticket, Answer}
+use Rattle.runs.specs.States.{Rotation, Drain, State, Answer}
 use Rattle.runs.specs.States.Ticket.{numbered}
 use Rattle.runs.specs.States.Call.{open_for, commit}
 use Rattle.runs.specs.States.Request.{to_open}
-use Rattle.runs.specs.Calls.{short, opening, open_on, drained, committing, respond, answer, settled_list, made}
-use Rattle.runs.specs.Onward.{Course, turn, weight, preceded, followed, onward, moving_on}
+use Rattle.runs.specs.Calls.{short, opening, drained, committing, respond, answer, settled_list, made}
+use Rattle.runs.specs.Onward.{Course, weight, followed, onward, moving_on}
 use Rattle.runs.proofs.Agree.{refused≢accepted}
 use Rattle.runs.proofs.Bounds.{route_few, route_moves}
 use Rattle.runs.proofs.Kept.{Kept, kept_call, kept_made}

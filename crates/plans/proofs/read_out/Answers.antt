@@ -1,9 +1,8 @@
 -- Bytes that say a sheet come to its plan.
-use Rattle.std.proofs.Common.{◌≡◌, Ok, Err, Result, sym, ap, ◌∙◌, subst}
+use Rattle.std.proofs.Common.{◌≡◌, Ok, Result, ap, ◌∙◌, subst}
 use Rattle.sheet.specs.declared.faults.SheetFault.{SheetFault}
-use Rattle.sheet.specs.Says.{text}
 use Rattle.sheet.specs.Sheets.{SheetText}
-use Rattle.plans.specs.Outcomes.{Told, planned, told}
+use Rattle.plans.specs.Outcomes.{planned, told}
 use Rattle.plans.specs.Laws.{EndsBest}
 use Rattle.plans.proofs.read_out.Goals as goal
 

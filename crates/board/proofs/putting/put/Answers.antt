@@ -1,5 +1,5 @@
 -- The part between is the items now, and the others stay.
-use Rattle.std.proofs.Common.{ℕ, ◌+◌, List, ◌++◌, length, take, ap₂, arith}
+use Rattle.std.proofs.Common.{◌+◌, ◌++◌, length, take, ap₂, arith}
 use borrow.Rule.Slice.PartMut.{Post-is}
 use Rattle.board.proofs.putting.put.Goals as goal
 

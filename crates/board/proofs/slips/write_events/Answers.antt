@@ -1,5 +1,5 @@
 -- One event more on the slip, and all of them at the end.
-use Rattle.std.proofs.Common.{◌≡◌, ℕ, ◌+◌, ◌-◌, ◌^◌, ◌<◌, ◌≤◌, List, ◌++◌, length, take, drop, set, sym, ap, ◌∙◌, ap₂, arith, length-take}
+use Rattle.std.proofs.Common.{◌≡◌, ℕ, ◌≤◌, List, ◌++◌, length, take, drop, set, sym, ap, ◌∙◌, ap₂, arith, length-take}
 use Rattle.std.proofs.lemmas.List.{take_all}
 use Rattle.fleet.specs.declared.Move.{Move}
 use Rattle.fleet.specs.declared.Event.{Event}

@@ -1,5 +1,5 @@
 -- The plan is that of the market and the policy that the sheet says.
-use Rattle.std.proofs.Common.{◌≡◌, ℕ, List, sym, refl, ap, ◌∙◌, subst}
+use Rattle.std.proofs.Common.{◌≡◌, ℕ, List, ap, ◌∙◌, subst}
 use Rattle.fleet.specs.Market.{Market}
 use Rattle.fleet.specs.Lists.{market}
 use Rattle.fleet.specs.Members.{members}
@@ -16,7 +16,7 @@ use Rattle.policy.specs.declared.ranked.Ranked.{Ranked}
 use Rattle.policy.specs.declared.seated.Seated.{Seated}
 use Rattle.policy.specs.declared.table.Table.{Table}
 use Rattle.runs.specs.Calls.{settled_list}
-use Rattle.sheet.specs.Says.{text, market_said, policy_of, policy_said}
+use Rattle.sheet.specs.Says.{text, market_said, policy_of}
 use Rattle.board.specs.Shown.{state}
 use Rattle.plans.specs.Outcomes.{PlanText, day_of, plan_for}
 use Rattle.plans.proofs.Planned.{day_is}

@@ -1,5 +1,5 @@
 -- A turn that nothing stops moves on, and one that is refused ends the course.
-use Rattle.std.proofs.Common.{◌≡◌, ℕ, suc, sym, ap, ◌∙◌, arith}
+use Rattle.std.proofs.Common.{◌≡◌, sym, ap, ◌∙◌, arith}
 use Rattle.fleet.specs.Lists.{market}
 use Rattle.matching.specs.declared.placement.Placement.{Placement}
 use Rattle.matching.proofs.Facts.{lists_given}

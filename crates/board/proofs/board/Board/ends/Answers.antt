@@ -1,5 +1,5 @@
 -- No rotation is left, so the placement is best for all tenants; at most 480 rotations stand.
-use Rattle.std.proofs.Common.{length, sym, arith}
+use Rattle.std.proofs.Common.{sym, arith}
 use Rattle.fleet.specs.Lists.{market}
 use Rattle.matching.proofs.Facts.{lists_given}
 use Rattle.rotation.proofs.LastOnes.{none_left}

@@ -1,6 +1,5 @@
 -- One call more of a run.
-use Rattle.std.proofs.Common.{◌≡◌, ℕ, List, [], ◌∷◌, ◌++◌, sym, refl, ap, ◌∙◌, ap₂}
-use Rattle.fleet.specs.declared.lists.Lists.{Lists}
+use Rattle.std.proofs.Common.{◌≡◌, ℕ, List, [], ◌∷◌, ◌++◌, sym, ap, ◌∙◌, ap₂}
 use Rattle.fleet.specs.Lists.{market}
 use Rattle.matching.specs.declared.placement.Placement.{Placement}
 use Rattle.policy.specs.Choice.{Policy}

@@ -1,5 +1,5 @@
 -- The rotation of a worker goes down from the current placement, and has two moves at least.
-use Rattle.std.proofs.Common.{◌≡◌, ℕ, List, Some, None, Option, sym, ap, ◌∙◌}
+use Rattle.std.proofs.Common.{◌≡◌, Some, sym, ap, ◌∙◌}
 use Rattle.fleet.specs.Lists.{market}
 use Rattle.fleet.proofs.Sound.{lists_sound}
 use Rattle.matching.specs.declared.placement.Placement.{Placement}

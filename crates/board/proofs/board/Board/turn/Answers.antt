@@ -1,16 +1,11 @@
 -- The open and the commit of a turn, and their events in the log.
-use Rattle.std.proofs.Common.{◌≡◌, ℕ, suc, ◌+◌, ◌-◌, ◌≤◌, true, List, [], ◌∷◌, ◌++◌, length, take, drop, Ok, Err, Result, sym, refl, ap, ◌∙◌, ap₂, arith, length-take}
-use Rattle.fleet.specs.Lists.{market}
+use Rattle.std.proofs.Common.{◌≡◌, ◌+◌, List, ◌++◌, length, take, drop, sym, ap, ◌∙◌, arith}
 use Rattle.fleet.specs.declared.Event.{Event}
-use Rattle.policy.specs.Choice.{Policy}
 use Rattle.runs.specs.States.{State, Answer}
-use Rattle.runs.specs.States.Call.{open_for, commit}
-use Rattle.runs.specs.Onward.{Course, turn}
-use Rattle.runs.proofs.Bounds.{length_events}
-use Rattle.runs.proofs.Onward.{Moves}
-use Rattle.board.specs.declared.refusal.Refusal.{Refusal}
-use Rattle.board.specs.Answers.{refusal_number, said, count_in, slip_after, ticket_said}
-use Rattle.board.specs.Shown.{state, called}
+use Rattle.runs.specs.States.Call.{commit}
+use Rattle.runs.specs.Onward.{Course}
+use Rattle.board.specs.Answers.{refusal_number, said, ticket_said}
+use Rattle.board.specs.Shown.{called}
 use Rattle.board.proofs.Turning.{refused_ends, accepted_moves, one_event, turn_room, second, moved_count, never_refused, whole, turn_written, written_none}
 use Rattle.board.proofs.board.Board.turn.Goals as goal
 

@@ -1,10 +1,9 @@
 -- Nobody past 63 has a tenant, so all that differ were seen.
-use Rattle.std.proofs.Common.{◌≡◌, ℕ, ◌≤◌, false, not, ◌&&◌, eqb, ltb, sym, refl, ap, ◌∙◌, ap₂, inl, inr, arith}
+use Rattle.std.proofs.Common.{◌≡◌, ℕ, not, eqb, sym, ◌∙◌, ap₂, inl, inr, arith}
 use mathlib.Core.Path.{fun_ext}
 use Rattle.std.proofs.lemmas.List.{get_or_past}
-use Rattle.std.proofs.lemmas.Bool.{cases_lt, eq-eqb, lt-ltb, le-ltb}
+use Rattle.std.proofs.lemmas.Bool.{cases_lt, lt-ltb, le-ltb}
 use Rattle.matching.specs.Entries.{place}
-use Rattle.runs.specs.Calls.{displaced}
 use Rattle.board.proofs.table.Table.displaced.Goals as goal
 
 pub returns : goal.returns

@@ -1,7 +1,6 @@
 -- Where something stands, the last is cut off at the end.
-use Rattle.std.proofs.Common.{◌≡◌, ℕ, List, take, Option, ap, ◌∙◌}
+use Rattle.std.proofs.Common.{ℕ, take, ap, ◌∙◌}
 use Rattle.runs.specs.Calls.{last_of}
-use Rattle.runs.specs.States.{Rotation}
 use Rattle.board.specs.Pieces.{cut}
 use Rattle.board.proofs.Held.{last_is, last_long, last_inside, last_few}
 use Rattle.board.proofs.Pieces.{cut_none}

@@ -1,5 +1,5 @@
 -- What is laid behind the standing moves changes none of them, and can be drained.
-use Rattle.std.proofs.Common.{◌≡◌, ℕ, ◌+◌, ◌<◌, ◌≤◌, true, List, [], ◌++◌, length, take, drop, Option, sym, refl, ap, ◌∙◌, subst, ap₂, arith, length-take}
+use Rattle.std.proofs.Common.{◌≡◌, ℕ, ◌+◌, ◌≤◌, true, List, ◌++◌, length, take, drop, Option, sym, refl, ap, ◌∙◌, subst, ap₂, arith, length-take}
 use Rattle.fleet.specs.Lists.{market}
 use Rattle.fleet.specs.declared.Move.{Move}
 use Rattle.matching.specs.Entries.{place}

@@ -1,5 +1,5 @@
 -- Where the rotation at a place is cut.
-use Rattle.std.proofs.Common.{ℕ, take, arith, length-take}
+use Rattle.std.proofs.Common.{take, arith, length-take}
 use Rattle.std.proofs.lemmas.Option.{slice_get_past}
 use Rattle.board.specs.Shown.{standing_in}
 use Rattle.board.proofs.Held.{standing_piece, standing_few, size_room}

@@ -1,5 +1,5 @@
 -- Nothing stands and nothing is drained, so the current placement is the settled one.
-use Rattle.std.proofs.Common.{◌≡◌, ℕ, List, [], ◌++◌, None, refl, ap, ◌∙◌, arith}
+use Rattle.std.proofs.Common.{ℕ, List, [], ◌++◌, None, refl, ap, ◌∙◌, arith}
 use Rattle.fleet.specs.Lists.{market}
 use Rattle.matching.specs.Entries.{place}
 use Rattle.runs.specs.States.{Rotation, State}

@@ -1,5 +1,5 @@
 -- Where nothing stands, the settled placement is reached.
-use Rattle.std.proofs.Common.{◌≡◌, ℕ, List, [], ◌++◌, ap, ◌∙◌}
+use Rattle.std.proofs.Common.{ℕ, List, [], ◌++◌, ap, ◌∙◌}
 use Rattle.fleet.specs.Lists.{market}
 use Rattle.matching.specs.Entries.{place}
 use Rattle.runs.specs.States.{Rotation}

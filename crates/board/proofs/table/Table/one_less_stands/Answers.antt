@@ -1,5 +1,5 @@
 -- The last rotation is cut off, and taken back.
-use Rattle.std.proofs.Common.{◌≡◌, ℕ, List, sym, ap, ◌∙◌}
+use Rattle.std.proofs.Common.{ℕ, List, sym, ap, ◌∙◌}
 use Rattle.matching.specs.Entries.{place}
 use Rattle.board.proofs.Held.{others_stacked, others_are, others_lead, back_there}
 use Rattle.board.proofs.table.Table.one_less_stands.Goals as goal

@@ -1,10 +1,10 @@
 -- An open answers a ticket of the next number, or refuses.
-use Rattle.std.proofs.Common.{◌≡◌, ℕ, ◌+◌, Bool, true, false, List, length, Some, None, Ok, Err, Option, Result, sym, refl, arith}
+use Rattle.std.proofs.Common.{◌≡◌, ℕ, ◌+◌, Bool, true, false, List, length, Some, None, Ok, Err, Option, refl, arith}
 use Rattle.runs.specs.States as States
 use Rattle.runs.specs.States.{Rotation, State, Answer}
 use Rattle.runs.specs.States.Ticket.{blank, numbered}
 use Rattle.runs.specs.States.Request.{to_open}
-use Rattle.runs.specs.Calls.{short, opening, open_on, respond}
+use Rattle.runs.specs.Calls.{short, opening, respond}
 use Rattle.board.specs.Answers.{count_in, ticket_of}
 use Rattle.board.specs.Pieces.{piece}
 use Rattle.board.specs.Shown.{state, drain_in, offered}

@@ -1,5 +1,5 @@
 -- One size more, and all of them are at most 960.
-use Rattle.std.proofs.Common.{◌≡◌, ℕ, ◌+◌, ◌≤◌, get_or, take, sum, sym, ap, ◌∙◌, arith}
+use Rattle.std.proofs.Common.{ℕ, ◌+◌, get_or, sym, ap, ◌∙◌, arith}
 use Rattle.std.proofs.lemmas.List.Sums.{sum_by_more}
 use Rattle.board.proofs.Held.{size_room}
 use Rattle.board.proofs.table.Table.start_of.Goals as goal
