@@ -32,14 +32,15 @@ def declared():
                 found = DECLARED.match(line)
                 if found:
                     names.update([found.group(1)] + found.group(2).split())
+                names.update(re.findall(r"^(?:pub )?record (" + NAME + ")", line))
             if "use " in line:
                 names.update(ALIAS.findall(line))
-    return {name: respelled(name) for name in names if "-" in name}
+    return {name: respelled(name) for name in names if "-" in name or name[0].isupper() and "_" in name}
 
 
 def respelled(name):
     if name[0].isupper():
-        return "".join(part[0].upper() + part[1:] for part in name.split("-") if part)
+        return "".join(part[0].upper() + part[1:] for part in re.split("[-_]", name) if part)
     return name.replace("-", "_")
 
 

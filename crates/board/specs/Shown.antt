@@ -107,5 +107,5 @@ pub record After (C : Policy) (first : ℕ) (cs : List States.Call) (t : Table) 
   pub reached : state t ≡ board (market t.lists) C first cs
 
 -- the table u comes from t by one call more
-abbrev pub Goes_on : Policy → States.Call → Table → Table → Type 0
-Goes_on C c t u = (first : ℕ) (cs : List States.Call) → After C first cs t → After C first (cs ++ (c ∷ [])) u
+abbrev pub GoesOn : Policy → States.Call → Table → Table → Type 0
+GoesOn C c t u = (first : ℕ) (cs : List States.Call) → After C first cs t → After C first (cs ++ (c ∷ [])) u

@@ -12,7 +12,7 @@ ghost use Rattle.runs.specs.Calls.{settled_list, made};
 ghost use Rattle.runs.specs.Laws.{BoardLaws, BoardBounds};
 ghost use Rattle.board.specs.declared.table.Table.{Table};
 ghost use Rattle.board.specs.declared.call.Call.TheVariants.{Open};
-ghost use Rattle.board.specs.Shown.{state, answered, called, Drainable, Keeps, After, Goes_on};
+ghost use Rattle.board.specs.Shown.{state, answered, called, Drainable, Keeps, After, GoesOn};
 ghost use Rattle.board.specs.Answers.{said, count_in, slip_after, ticket_of, ticket_said};
 
 use crate::call::Call;
@@ -65,7 +65,7 @@ impl<P: Policy> Board<P> {
         ensures ticket { ticket_said result.1 ≡ ticket_of (called (P.Policy.chosen self.old.policy) self.old.table (open_for worker)).1 }
         ensures keeps { Keeps self.old.table self.new.table }
         ensures policy { self.new.policy ≡ self.old.policy }
-        ensures after { Goes_on (P.Policy.chosen self.old.policy) (open_for worker) self.old.table self.new.table }
+        ensures after { GoesOn (P.Policy.chosen self.old.policy) (open_for worker) self.old.table self.new.table }
     {
         self.goes_on();
         let number = self.table.next;
@@ -88,7 +88,7 @@ impl<P: Policy> Board<P> {
         ensures slip { slip.new ≡ slip_after (called (P.Policy.chosen self.old.policy) self.old.table (commit_by (ticket_said ticket))).1 slip.old }
         ensures keeps { Keeps self.old.table self.new.table }
         ensures policy { self.new.policy ≡ self.old.policy }
-        ensures after { Goes_on (P.Policy.chosen self.old.policy) (commit_by (ticket_said ticket)) self.old.table self.new.table }
+        ensures after { GoesOn (P.Policy.chosen self.old.policy) (commit_by (ticket_said ticket)) self.old.table self.new.table }
     {
         self.goes_on();
         let (live, number) = ticket.spend();
@@ -101,7 +101,7 @@ impl<P: Policy> Board<P> {
         ensures answer { said result ≡ count_in (called (P.Policy.chosen self.old.policy) self.old.table (withdraw_by (ticket_said ticket))).1 }
         ensures keeps { Keeps self.old.table self.new.table }
         ensures policy { self.new.policy ≡ self.old.policy }
-        ensures after { Goes_on (P.Policy.chosen self.old.policy) (withdraw_by (ticket_said ticket)) self.old.table self.new.table }
+        ensures after { GoesOn (P.Policy.chosen self.old.policy) (withdraw_by (ticket_said ticket)) self.old.table self.new.table }
     {
         self.goes_on();
         let (live, number) = ticket.spend();
@@ -118,7 +118,7 @@ impl<P: Policy> Board<P> {
         ensures slip { slip.new ≡ slip_after (called (P.Policy.chosen self.old.policy) self.old.table (back_by)).1 slip.old }
         ensures keeps { Keeps self.old.table self.new.table }
         ensures policy { self.new.policy ≡ self.old.policy }
-        ensures after { Goes_on (P.Policy.chosen self.old.policy) (back_by) self.old.table self.new.table }
+        ensures after { GoesOn (P.Policy.chosen self.old.policy) (back_by) self.old.table self.new.table }
     {
         self.goes_on();
         self.table.answer(Call::Back, slip)
@@ -132,7 +132,7 @@ impl<P: Policy> Board<P> {
         ensures slip { slip.new ≡ slip_after (called (P.Policy.chosen self.old.policy) self.old.table (rewind_by)).1 slip.old }
         ensures keeps { Keeps self.old.table self.new.table }
         ensures policy { self.new.policy ≡ self.old.policy }
-        ensures after { Goes_on (P.Policy.chosen self.old.policy) (rewind_by) self.old.table self.new.table }
+        ensures after { GoesOn (P.Policy.chosen self.old.policy) (rewind_by) self.old.table self.new.table }
     {
         self.goes_on();
         self.table.answer(Call::Rewind, slip)
@@ -168,7 +168,7 @@ impl<P: Policy> Board<P> {
 
     // Whatever comes from this table by one call comes from the board by one call more.
     fn goes_on(&self)
-        ensures { (c : States.Call) (u : Table) → Keeps self.now.table u → state u ≡ (called (P.Policy.chosen self.now.policy) self.now.table c).0 → Goes_on (P.Policy.chosen self.now.policy) c self.now.table u }
+        ensures { (c : States.Call) (u : Table) → Keeps self.now.table u → state u ≡ (called (P.Policy.chosen self.now.policy) self.now.table c).0 → GoesOn (P.Policy.chosen self.now.policy) c self.now.table u }
     {}
 }
 

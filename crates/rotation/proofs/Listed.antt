@@ -7,7 +7,7 @@ use Rattle.policy.specs.Choice.{Policy}
 use Rattle.fleet.specs.declared.Move.{Move}
 use Rattle.rotation.specs.Rotation.{Cycle, target}
 use Rattle.rotation.specs.Moves.{move_from, only_if, carried, moves, rotation_at}
-use Rattle.rotation.specs.Laws.{Member, Rising, MovesOn, Finds-rotation}
+use Rattle.rotation.specs.Laws.{Member, Rising, MovesOn, FindsRotation}
 use Rattle.rotation.proofs.Steps.{target_is}
 use Rattle.rotation.proofs.Cycles.{cycle_workers, has_step}
 use Rattle.rotation.proofs.Moved.{Fits, fits_carried}
@@ -83,7 +83,7 @@ moves_on m C x S c k = (
       subst (λ j. Member j (moves m C x S)) same (carried_has x (target m C x) S 64 v (cycle_workers c v s) s),
 )
 
-pub finds_rotation : (m : Market) (C : Policy) (x : Placement) (w : ℕ) → Finds-rotation m C x w (rotation_at m C x w)
+pub finds_rotation : (m : Market) (C : Policy) (x : Placement) (w : ℕ) → FindsRotation m C x w (rotation_at m C x w)
 finds_rotation m C x w = record {
   moves = λ r e.
       let (rot, l) = rotation_found m C x w r e in

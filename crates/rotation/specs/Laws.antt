@@ -31,7 +31,7 @@ pub record RotationOf (m : Market) (C : Policy) (x : Placement) (w : ℕ) (r : L
   pub moves : (k : Move) → Member k r ↔ MovesOn m C x w k
 
 -- what is found is the rotation of w, and nothing is found exactly where w is on none
-pub record Finds-rotation (m : Market) (C : Policy) (x : Placement) (w : ℕ) (found : Option (List Move)) : Type 0 where
+pub record FindsRotation (m : Market) (C : Policy) (x : Placement) (w : ℕ) (found : Option (List Move)) : Type 0 where
   pub moves : (r : List Move) → found ≡ Some r → Rotates m C x r × RotationOf m C x w r
   pub missing : (found ≡ None) ↔ (OnRotation m C x w → ⊥)
 

@@ -7,7 +7,7 @@ ghost use Rattle.matching.specs.Stable.{Stable, TenantBest};
 ghost use Rattle.rotation.specs.Moves.{walk as walk_at, rotation_at, on_rotation};
 ghost use Rattle.rotation.specs.Listing.{shown};
 ghost use Rattle.rotation.specs.Walking.{Knows, found_set, gathered, FoundDisplacing};
-ghost use Rattle.rotation.specs.Laws.{Finds-rotation, RotationLaws};
+ghost use Rattle.rotation.specs.Laws.{FindsRotation, RotationLaws};
 
 use crate::knowing::next_of;
 use crate::known::Known;
@@ -25,7 +25,7 @@ pub fn rotation_of<P: Policy>(
     worker: u8,
 ) -> Option<MoveList>
     ensures moves { shown result ≡ rotation_at (market lists.now) (P.Policy.chosen policy.now) (place staffing.now.placement.places) worker }
-    ensures found { Finds-rotation (market lists.now) (P.Policy.chosen policy.now) (place staffing.now.placement.places) worker (shown result) }
+    ensures found { FindsRotation (market lists.now) (P.Policy.chosen policy.now) (place staffing.now.placement.places) worker (shown result) }
     ensures laws { Stable (market lists.now) (P.Policy.chosen policy.now) (place staffing.now.placement.places) → RotationLaws (market lists.now) (P.Policy.chosen policy.now) (place staffing.now.placement.places) }
 {
     let found = found_rotation(lists, policy, staffing, worker);
@@ -130,7 +130,7 @@ fn finds_rotation<P: Policy>(
     found: &Option<MoveList>,
 )
     requires { shown found.now ≡ rotation_at (market lists.now) (P.Policy.chosen policy.now) (place staffing.now.placement.places) worker }
-    ensures { Finds-rotation (market lists.now) (P.Policy.chosen policy.now) (place staffing.now.placement.places) worker (shown found.now) }
+    ensures { FindsRotation (market lists.now) (P.Policy.chosen policy.now) (place staffing.now.placement.places) worker (shown found.now) }
 {}
 
 // The laws of rotations at a stable placement.
