@@ -15,7 +15,7 @@ pub struct Frame<'a> {
 }
 
 // A lemma: it does nothing, and whoever calls it may use what it ensures. (What a slice of bytes holds is known to be bytes where one of them is read.)
-pub fn are_bytes(bytes: &[u8])
+pub(crate) fn are_bytes(bytes: &[u8])
     ensures { Bytes bytes.now }
 {
     if bytes.len() > 0 {
@@ -39,6 +39,13 @@ impl<'a> Reader<'a> {
     {
         fields_are_the_bytes(bytes);
         Reader { bytes, place: 0 }
+    }
+
+    /// The offset that the reader has come to.
+    pub fn place(&self) -> usize
+        ensures { result ≡ self.now.place }
+    {
+        self.place
     }
 
     /// The next field, or none at the end of the input. A faulty field is not passed over.
@@ -71,7 +78,7 @@ impl<'a> Reader<'a> {
     }
 
     /// The field that has to be here; the end of the input is one that is cut off.
-    pub fn require(&mut self) -> Result<Frame<'a>, FramingFault>
+    pub(crate) fn require(&mut self) -> Result<Frame<'a>, FramingFault>
         ensures value { handed result ≡ required self.old.place (frame_at (input self.old) self.old.place) }
         ensures place { self.new.place ≡ place_after (input self.old) self.old.place }
         ensures input { input self.new ≡ input self.old }
