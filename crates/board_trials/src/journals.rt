@@ -7,14 +7,14 @@ use std::io;
 
 /// A journal that is being written: its buffer, and how many bytes of it are used.
 #[derive(Drop)]
-pub struct Written {
+pub(crate) struct Written {
     buffer: Vec<u8>,
     used: usize,
 }
 
 impl Written {
     /// An empty journal with room for so many bytes.
-    pub fn with_room(heap: Global, room: usize) -> anyhow::Result<Written> {
+    pub(crate) fn with_room(heap: Global, room: usize) -> anyhow::Result<Written> {
         Ok(Written {
             buffer: vec![in heap; 0; room]?,
             used: 0,
@@ -22,7 +22,7 @@ impl Written {
     }
 
     /// Adds the event that five numbers say, and prints the answer and the bytes of the journal.
-    pub fn add(&mut self, rt: &HostRuntime, numbers: &str) -> anyhow::Result<()> {
+    pub(crate) fn add(&mut self, rt: &HostRuntime, numbers: &str) -> anyhow::Result<()> {
         let event = event_of(numbers)?;
         match add(self.buffer.as_mut_slice(), self.used, event) {
             Ok(used) => {
@@ -40,7 +40,7 @@ impl Written {
 }
 
 /// The events of a journal, and its end or its fault.
-pub fn print_journal(rt: &HostRuntime, bytes: &[u8]) -> io::Result<()> {
+pub(crate) fn print_journal(rt: &HostRuntime, bytes: &[u8]) -> io::Result<()> {
     let mut reader = EventReader::new(bytes);
     for _ in 0..bytes.len() / 15 + 1 {
         match reader.next() {

@@ -99,7 +99,7 @@ impl fmt::Display for Answer {
 
 /// The board that calls are made on, a board to spend tickets on, the slip, and what was seen last.
 #[derive(Drop)]
-pub struct Script {
+pub(crate) struct Script {
     board: SheetBoard,
     other: SheetBoard,
     slip: [Event; 64],
@@ -108,7 +108,7 @@ pub struct Script {
 
 impl Script {
     /// A script that begins with a board of the ring.
-    pub fn new(heap: Global) -> anyhow::Result<Script> {
+    pub(crate) fn new(heap: Global) -> anyhow::Result<Script> {
         let (board, _) = board_of(RING, 1)?;
         let (other, _) = board_of(RING, 1)?;
         let seen = Seen::of(heap, &board)?;
@@ -121,7 +121,12 @@ impl Script {
     }
 
     /// Makes a board of a sheet, and prints it.
-    pub fn begin(&mut self, rt: &HostRuntime, bytes: &[u8], first: u64) -> anyhow::Result<()> {
+    pub(crate) fn begin(
+        &mut self,
+        rt: &HostRuntime,
+        bytes: &[u8],
+        first: u64,
+    ) -> anyhow::Result<()> {
         let (board, rounds) = board_of(bytes, first)?;
         let seen = Seen::of(rt.alloc(), &board)?;
         let state = State {
@@ -136,7 +141,7 @@ impl Script {
 
     /// Makes the call that a word and its argument say, and prints what it answered. The state is printed
     /// where the call was accepted, with the last rotation that stands, and where the whole is wanted, with all of them.
-    pub fn step(
+    pub(crate) fn step(
         &mut self,
         rt: &HostRuntime,
         word: &str,

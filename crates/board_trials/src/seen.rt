@@ -12,7 +12,7 @@ pub type SheetBoard = Board<Quarantine<Pair<Ranked, Pair<Seated, Table>>>>;
 
 /// The placement, the standing rotations and how many there are, the drain, and the next number.
 #[derive(Drop)]
-pub struct Seen {
+pub(crate) struct Seen {
     placement: Placement,
     count: usize,
     standing: Vec<MoveList>,
@@ -22,7 +22,7 @@ pub struct Seen {
 
 impl Seen {
     /// What is seen of a board.
-    pub fn of(heap: Global, board: &SheetBoard) -> anyhow::Result<Seen> {
+    pub(crate) fn of(heap: Global, board: &SheetBoard) -> anyhow::Result<Seen> {
         let count = board.standing();
         let mut standing = Vec::new(heap);
         for index in 0..count {
@@ -40,7 +40,7 @@ impl Seen {
     }
 
     /// Whether the same is seen.
-    pub fn is(&self, other: &Seen) -> bool {
+    pub(crate) fn is(&self, other: &Seen) -> bool {
         self.placement.places == other.placement.places
             && self.count == other.count
             && self.next == other.next
@@ -50,7 +50,7 @@ impl Seen {
 }
 
 /// Whether these are the same events, one by one, past so many.
-pub fn same_events(some: &[Event], others: &[Event], past: usize) -> bool {
+pub(crate) fn same_events(some: &[Event], others: &[Event], past: usize) -> bool {
     for (one, other) in some.iter().zip(others).skip(past) {
         if one.number != other.number
             || one.kind != other.kind
@@ -139,7 +139,7 @@ fn placed(places: &[u8]) -> usize {
 
 /// A state on one line, with all rotations that stand or only the last.
 #[derive(Clone, Copy)]
-pub struct State<'a> {
+pub(crate) struct State<'a> {
     pub seen: &'a Seen,
     pub whole: bool,
 }
