@@ -1,6 +1,7 @@
 -- What a table holds: its standing rotations lead from the settled placement to the current one.
-use Rattle.std.proofs.Common.{◌≡◌, ℕ, ◌+◌, ◌-◌, ◌<◌, ◌≤◌, true, List, [], ◌∷◌, ◌++◌, length, get_or, take, Some, sum_by, sum, sym, refl, ap, ◌∙◌, subst, ap₂, append-nil, arith, length-take}
+use Rattle.std.proofs.Common.{◌≡◌, ℕ, ◌+◌, ◌-◌, ◌<◌, ◌≤◌, true, List, [], ◌∷◌, ◌++◌, length, get_or, take, Some, None, Option, sum_by, sum, sym, refl, ap, ◌∙◌, subst, ap₂, append-nil, arith, length-take}
 use Rattle.std.specs.List.{slice_get}
+use Rattle.std.proofs.lemmas.Option.{slice_get_past}
 use Rattle.std.proofs.lemmas.List.{length_push, take_more, take-take, get_or-take}
 use Rattle.std.proofs.lemmas.List.Sums.{sum_by_push, sum_by_more, sum_by-take-le}
 use Rattle.fleet.specs.Lists.{market}
@@ -13,18 +14,24 @@ use Rattle.runs.specs.States.{Rotation}
 use Rattle.runs.specs.Calls.{last_of, but_last}
 use Rattle.runs.specs.Onward.{weight}
 use Rattle.runs.specs.Descent.{descends, leads, led_to}
-use Rattle.runs.proofs.Descent.{descends_few, descends_fits, descends_leaves, length_led_to, led_to_push, leads_push, leads_pop, leads_slip, few_rotations, few_moves}
-use Rattle.board.specs.declared.drain.Drain.{Drain}
-use Rattle.board.specs.declared.drain.Drain.TheVariants.{Shut, Draining}
+use Rattle.runs.proofs.Descent.{descends_few, descends_fits, descends_leaves, length_led_to, led_to_none, led_to_push, none_leads, leads_push, leads_pop, leads_slip, few_rotations, few_moves}
+use Rattle.board.specs.declared.drain.Drained.{Drained}
 use Rattle.board.specs.declared.table.Table.{Table}
 use Rattle.board.specs.Pieces.{piece, cut, opened}
 use Rattle.board.specs.Shown.{standing_in, last_size, last_piece, state}
-use Rattle.board.proofs.Pieces.{length_piece, length_cut, cut_push, cut_at, cut_moves}
+use Rattle.board.proofs.Pieces.{cut_none, length_piece, length_cut, cut_push, cut_at, cut_moves}
 
 -- rotations that lead on with a drain behind them lead on without it
-without_drain : (m : Market) (l : List ℕ) (rs : List Rotation) (d : Drain) (at : ℕ) (ms : List Move) → leads m l (rs ++ opened d at ms) ≡ true → leads m l rs ≡ true
-without_drain m l rs Shut at ms e = ap (leads m l) (sym (append-nil rs)) ∙ e
-without_drain m l rs (Draining n size) at ms e = (leads_pop m l rs _ e).0
+without_drain : (m : Market) (l : List ℕ) (rs : List Rotation) (d : Option Drained) (at : ℕ) (ms : List Move) → leads m l (rs ++ opened d at ms) ≡ true → leads m l rs ≡ true
+without_drain m l rs None at ms e = ap (leads m l) (sym (append-nil rs)) ∙ e
+without_drain m l rs (Some d) at ms e = (leads_pop m l rs _ e).0
+
+-- no rotations lead nowhere
+pub none_lead : (m : Market) (l : List ℕ) (ms : List Move) → leads m l (cut [] ms ++ []) ≡ true
+none_lead m l ms = ap (λ (rs : List Rotation). leads m l (rs ++ [])) (cut_none ms) ∙ none_leads m l
+
+pub none_led : (l : List ℕ) (ms : List Move) (w : ℕ) → place (led_to l (cut [] ms)) w ≡ place l w
+none_led l ms w = ap (λ (rs : List Rotation). place (led_to l rs) w) (cut_none ms) ∙ ap (λ (k : List ℕ). place k w) (led_to_none l)
 
 module _ (t : Table) where
   pub places_are : led_to t.settled.places (standing_in t) ≡ t.current.places
@@ -34,6 +41,9 @@ module _ (t : Table) where
 
   pub standing_leads : leads (market t.lists) t.settled.places (standing_in t) ≡ true
   standing_leads = without_drain (market t.lists) t.settled.places (standing_in t) t.drain t.len t.moves t.leading
+
+  pub leads_alone : leads (market t.lists) t.settled.places (standing_in t ++ []) ≡ true
+  leads_alone = ap (leads (market t.lists) t.settled.places) (append-nil (standing_in t)) ∙ standing_leads
 
   -- as many rotations stand as there are sizes, with as many moves as lie there
   pub standing_long : length (standing_in t) ≡ t.count
@@ -128,6 +138,17 @@ module _ (t : Table) (some : 0 < t.count) where
       ap (moved (reversed (last_piece t)))
       (sym (places_are t) ∙ ap (led_to t.settled.places) split ∙ led_to_push t.settled.places others (last_piece t)) ∙
       moved_reversed (last_piece t) l (rw size (descends_fits m (place l) 0 (last_piece t) led.1)) (descends_leaves m (place l) 0 (last_piece t) led.1)
+
+pub last_none : (t : Table) → t.count ≡ 0 → last_of (standing_in t) ≡ None
+last_none t e = ap (λ (n : ℕ). last_of (cut (take n t.sizes) t.moves)) e ∙ ap last_of (cut_none t.moves)
+
+-- the others lead to where the last one is taken back
+pub others_reach : (t : Table) (l : List ℕ) (w : ℕ) → 0 < t.count → l ≡ moved (reversed (last_piece t)) t.current.places →
+    place (led_to t.settled.places (cut (take (t.count - 1) t.sizes) t.moves)) w ≡ place l w
+others_reach t l w some e = ap (λ (k : List ℕ). place k w) (sym (e ∙ back_there t some))
+
+pub standing_none : (t : Table) (i : ℕ) → t.count ≤ i → slice_get (standing_in t) i ≡ None
+standing_none t i h = slice_get_past (standing_in t) i (omega (arith, standing_long t))
 
 -- a standing rotation
 module _ (t : Table) (i : ℕ) (h : i < t.count) where

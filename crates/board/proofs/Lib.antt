@@ -2,5 +2,6 @@
 pub mod Pieces
 pub mod Written
 pub mod Held
+pub mod Going
 pub mod Turning
 pub mod Advancing

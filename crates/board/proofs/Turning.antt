@@ -1,5 +1,5 @@
 -- A turn at a table: an open that is refused ends it, and one that is accepted leads to a commit that is, with room for its events.
-use Rattle.std.proofs.Common.{◌≡◌, ℕ, suc, ◌+◌, ◌≤◌, true, List, [], ◌∷◌, ◌++◌, length, take, drop, Ok, Err, Result, sym, refl, ap, ◌∙◌, ap₂, inl, inr, append_assoc, arith, length-append, length-take}
+use Rattle.std.proofs.Common.{◌≡◌, ℕ, suc, ◌+◌, ◌≤◌, true, List, [], ◌∷◌, ◌++◌, length, take, drop, Ok, Err, Result, sym, refl, ap, ◌∙◌, subst, ap₂, inl, inr, append_assoc, arith, length-append, length-take}
 use Rattle.std.proofs.lemmas.List.{take_at, drop_at, drop-drop, take-append-drop}
 use Rattle.fleet.specs.Market.{Market}
 use Rattle.fleet.specs.Lists.{market}
@@ -20,12 +20,14 @@ use Rattle.runs.proofs.Descent.{descends_few}
 use Rattle.runs.proofs.Falls.{rotation_descends, rotation_two}
 use Rattle.runs.proofs.Onward.{Moves, turn_is, stops_turn, moves_turn}
 use Rattle.board.specs.declared.table.Table.{Table}
-use Rattle.board.specs.Answers.{count_in, slip_after, ticket_of}
+use Rattle.board.specs.declared.refusal.Refusal.{Refusal}
+use Rattle.board.specs.Answers.{refusal_number, count_in, slip_after, ticket_of}
+use Rattle.board.specs.Moving.{Ends as Ends_of}
 use Rattle.board.specs.Shown.{state, called, Keeps}
 use Rattle.board.proofs.Held.{one_more, move_room, count_room, standing_long, standing_moves}
 
 err≢ok : (a b : ℕ) → ◌≡◌ {A = Result ℕ ℕ} (Err a) (Ok b) → ⊥
-err≢ok a b e = let z : ◌≡◌ {A = ℕ} 0 1 = cc in omega arith
+err≢ok a b e = cc
 
 err_inj : (a b : ℕ) → ◌≡◌ {A = Result ℕ ℕ} (Err a) (Err b) → a ≡ b
 err_inj a b e = cc
@@ -86,6 +88,11 @@ module _ (t : Table) (C : Policy) (w : ℕ) where
     | inr mv ↦
         absurd (err≢ok k 1 (e ∙ ap (λ (p : State × Answer). count_in p.1) mv.opens))
   ]
+
+  pub turn_refused : (at : ℕ) (e : Refusal) → Err (refusal_number e) ≡ count_in (called C t (open_for w)).1 → (r : Result ℕ Refusal) → r ≡ Err e → Ends_of c at r
+  turn_refused at e q r is =
+      let ends = refused_ends (refusal_number e) q in
+      subst (λ (z : Result ℕ Refusal). Ends_of c at z) (sym is) (ends.none, ends.stopped)
 
   -- an open that is accepted
   pub accepted_moves : (k : ℕ) → Ok k ≡ count_in (called C t (open_for w)).1 → Moves m C home (state t) w

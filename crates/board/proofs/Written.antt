@@ -1,8 +1,10 @@
 -- The events of moves, one more at a time, on a slip.
-use Rattle.std.proofs.Common.{◌≡◌, ℕ, suc, ◌+◌, ◌<◌, List, [], ◌∷◌, ◌++◌, length, get_or, take, drop, set, sym, refl, ap, ◌∙◌, ap₂, append_assoc, add-one, arith, length-take, drop-cons}
+use Rattle.std.proofs.Common.{◌≡◌, ℕ, suc, ◌+◌, ◌<◌, ◌≤◌, List, [], ◌∷◌, ◌++◌, length, get_or, take, drop, set, sym, refl, ap, ◌∙◌, ap₂, append_assoc, add-one, arith, length-take, drop-cons}
 use Rattle.std.proofs.lemmas.List.{set_at, take_more}
 use Rattle.fleet.specs.declared.Move.{Move}
 use Rattle.fleet.specs.declared.Event.{Event}
+use Rattle.rotation.specs.declared.move_list.MoveList.{MoveList}
+use Rattle.rotation.specs.Listing.{listing}
 use Rattle.runs.specs.Calls.{event, events}
 use Rattle.runs.proofs.Bounds.{length_events}
 
@@ -26,3 +28,7 @@ slip_more slip n kind i r d h l =
     ap₂ (λ (x y : List Event). x ++ y)
     (sym (events_push n kind (take i r) (get_or r i d) i t) ∙ ap (events n kind) (sym (take_more r i d l)))
     (ap (λ (j : ℕ). drop j slip) (sym (add-one i)))
+
+-- a list of moves fits a slip
+pub listing_few : (r : MoveList) → length (listing r) ≤ 64
+listing_few r = omega (arith, length-take r.len r.moves, r.short)

@@ -1,14 +1,15 @@
 -- How a board's answers are told: a count of events or a refusal, the slip, and the ticket.
-use Rattle.std.specs.Prelude.{ℕ, List, ◌++◌, length, drop, Some, None, Ok, Err, Option, Result}
+use Rattle.std.specs.Prelude.{◌≡◌, ℕ, List, ◌++◌, length, drop, Some, None, Ok, Err, Option, Result}
 use Rattle.fleet.specs.declared.Event.{Event}
 use Rattle.runs.specs.States as States
-use Rattle.runs.specs.States.{Answer}
+use Rattle.runs.specs.States.{State, Answer}
 use Rattle.runs.specs.States.Ticket.{blank, numbered}
 use Rattle.runs.specs.States.Answer.{refused, accepted}
 use Rattle.board.specs.declared.refusal.Refusal.{Refusal}
 use Rattle.board.specs.declared.refusal.Refusal.TheVariants.{NoRotation, DrainSet, NoDrain, OtherTicket, NumbersShort, NoneStanding}
 use Rattle.board.specs.declared.ticket.Ticket.{Ticket}
-use Rattle.board.specs.Shown.{ticket_in}
+use Rattle.board.specs.declared.table.Table.{Table}
+use Rattle.board.specs.Shown.{ticket_in, state as state_of, Keeps}
 
 -- the refusals by number
 abbrev pub refusal_number : Refusal → ℕ
@@ -46,9 +47,16 @@ ticket_of (accepted es t) = t
 
 -- a ticket in code
 abbrev pub ticket_said : Ticket → States.Ticket
-ticket_said t = ticket_in t.live t.number
+ticket_said t = ticket_in t.drain
 
--- the number of a live ticket
+-- the number of a ticket that is not blank
 abbrev pub ticket_number : States.Ticket → Option ℕ
 ticket_number blank = None
 ticket_number (numbered n) = Some n
+
+-- a table t that becomes u has answered a call by p: its state, the result, and the slip before and after are as told there, and its lists and its settled placement stay
+pub record Answered (t u : Table) (result : Result ℕ Refusal) (before after : List Event) (p : State × Answer) : Type 0 where
+  pub state : state_of u ≡ p.0
+  pub answer : said result ≡ count_in p.1
+  pub slip : after ≡ slip_after p.1 before
+  pub keeps : Keeps t u

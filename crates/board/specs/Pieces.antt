@@ -1,13 +1,8 @@
 -- Rotations that lie one behind the other in an array of moves.
-use Rattle.std.specs.Prelude.{ℕ, List, [], ◌∷◌, take, drop}
+use Rattle.std.specs.Prelude.{ℕ, List, [], ◌∷◌, take, drop, Some, None, Option}
 use Rattle.fleet.specs.declared.Move.{Move}
 use Rattle.runs.specs.States.{Rotation}
-use Rattle.board.specs.declared.drain.Drain.{Drain}
-use Rattle.board.specs.declared.drain.Drain.TheVariants.{Shut, Draining}
-
--- a move of nobody, which stands where there is none
-abbrev pub no_move : Move
-no_move = record { worker = 0; from = 0; to = 0 }
+use Rattle.board.specs.declared.drain.Drained.{Drained}
 
 -- so many moves from a place on
 abbrev pub piece : ℕ → ℕ → List Move → Rotation
@@ -19,16 +14,16 @@ cut [] ms = []
 cut (n ∷ ns) ms = take n ms ∷ cut ns (drop n ms)
 
 -- how many moves are drained
-abbrev pub size_of : Drain → ℕ
-size_of Shut = 0
-size_of (Draining n size) = size
+abbrev pub size_of : Option Drained → ℕ
+size_of None = 0
+size_of (Some d) = d.size
 
 -- the event number of the drain, 0 where there is none
-abbrev pub number_of : Drain → ℕ
-number_of Shut = 0
-number_of (Draining n size) = n
+abbrev pub number_of : Option Drained → ℕ
+number_of None = 0
+number_of (Some d) = d.number
 
 -- the drained rotation, whose moves lie from `at` on, or none
-abbrev pub opened : Drain → ℕ → List Move → List Rotation
-opened Shut at ms = []
-opened (Draining n size) at ms = piece at size ms ∷ []
+abbrev pub opened : Option Drained → ℕ → List Move → List Rotation
+opened None at ms = []
+opened (Some d) at ms = piece at d.size ms ∷ []

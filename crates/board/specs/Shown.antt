@@ -1,5 +1,6 @@
 -- The state that a board's table shows, and what a call in plain numbers asks of it.
-use Rattle.std.specs.Prelude.{◌≡◌, ℕ, ◌+◌, ◌-◌, ◌<◌, ◌≤◌, Bool, true, false, cond, List, [], ◌∷◌, ◌++◌, length, take, Some, None, Option, ◌==◌, slice_index}
+use Rattle.std.specs.Prelude.{◌≡◌, ℕ, ◌+◌, ◌-◌, ◌<◌, ◌≤◌, true, List, [], ◌∷◌, ◌++◌, length, take, Some, None, Option, option_map, slice_index}
+use Rattle.std.specs.Option.{IfSome}
 use Rattle.fleet.specs.Lists.{market}
 use Rattle.fleet.specs.declared.Move.{Move}
 use Rattle.policy.specs.Choice.{Policy}
@@ -12,17 +13,16 @@ use Rattle.runs.specs.States.Ticket.{blank, numbered}
 use Rattle.runs.specs.States.Request.{to_open, to_commit, to_withdraw, to_back, to_rewind}
 use Rattle.runs.specs.Calls.{respond, answer, settled_list, board}
 use Rattle.runs.specs.Descent.{descends}
-use Rattle.board.specs.declared.drain.Drain.{Drain}
-use Rattle.board.specs.declared.drain.Drain.TheVariants.{Shut, Draining}
+use Rattle.board.specs.declared.drain.Drained.{Drained}
 use Rattle.board.specs.declared.call.Call.{Call}
 use Rattle.board.specs.declared.call.Call.TheVariants.{Open, Commit, Withdraw, Back, Rewind}
 use Rattle.board.specs.declared.table.Table.{Table}
 use Rattle.board.specs.Pieces.{piece, cut}
 
 -- the drain, whose moves lie from `at` on
-abbrev pub drain_in : Drain → ℕ → List Move → Option States.Drain
-drain_in Shut at ms = None
-drain_in (Draining n size) at ms = Some (record { number = n; rotation = piece at size ms })
+abbrev pub drain_in : Option Drained → ℕ → List Move → Option States.Drain
+drain_in None at ms = None
+drain_in (Some d) at ms = Some (record { number = d.number; rotation = piece at d.size ms })
 
 -- the standing rotations
 abbrev pub standing_in : Table → List Rotation
@@ -49,20 +49,20 @@ state t = record {
 abbrev pub fresh : List ℕ → ℕ → State
 fresh settled first = record { placement = settled; standing = []; drain = None; next = first }
 
--- a ticket by its number, blank where it is not live
-abbrev pub ticket_in : Bool → ℕ → Ticket
-ticket_in true n = numbered n
-ticket_in false n = blank
+-- a ticket by the number of its drain, blank where there is none
+abbrev pub ticket_in : Option ℕ → Ticket
+ticket_in None = blank
+ticket_in (Some n) = numbered n
 
--- a rotation of so many moves, none where there are none
-abbrev pub offered : ℕ → Rotation → Option Rotation
-offered size r = cond (size == 0) None (Some r)
+-- the rotation of so many moves from `at` on, if there is one
+abbrev pub offered : Option ℕ → ℕ → List Move → Option Rotation
+offered size at ms = option_map (λ n. piece at n ms) size
 
 -- what a call in plain numbers asks: an open is for the rotation that lies behind the standing ones
 abbrev pub request_in : Table → Call → Request
-request_in t (Open w size) = to_open w (offered size (piece t.len size t.moves))
-request_in t (Commit live n) = to_commit (ticket_in live n)
-request_in t (Withdraw live n) = to_withdraw (ticket_in live n)
+request_in t (Open w size) = to_open w (offered size t.len t.moves)
+request_in t (Commit k) = to_commit (ticket_in k)
+request_in t (Withdraw k) = to_withdraw (ticket_in k)
 request_in t Back = to_back
 request_in t Rewind = to_rewind
 
@@ -81,7 +81,7 @@ called C t c = answer (market t.lists) C t.settled.places (state t) c
 
 -- so many moves behind the standing ones can be drained: they are there, 2 to 64 of them, and go down from the present placement
 pub record Drainable (t : Table) (size : ℕ) : Type 0 where
-  pub shut : t.drain ≡ Shut
+  pub shut : t.drain ≡ None
   pub room : t.len + size ≤ 960
   pub long : length (piece t.len size t.moves) ≡ size
   pub some : 1 < size
@@ -90,9 +90,9 @@ pub record Drainable (t : Table) (size : ℕ) : Type 0 where
 
 -- an open is for a rotation that can be drained, or for none
 abbrev pub Offers : Table → Call → Type 0
-Offers t (Open w size) = 0 < size → Drainable t size
-Offers t (Commit live n) = Unit {0}
-Offers t (Withdraw live n) = Unit {0}
+Offers t (Open w size) = IfSome size (Drainable t)
+Offers t (Commit k) = Unit {0}
+Offers t (Withdraw k) = Unit {0}
 Offers t Back = Unit {0}
 Offers t Rewind = Unit {0}
 
@@ -101,11 +101,16 @@ pub record Keeps (t u : Table) : Type 0 where
   pub lists : u.lists ≡ t.lists
   pub settled : u.settled ≡ t.settled
 
+-- the table t has become u, which shows the state s
+pub record Becomes (t u : Table) (s : State) : Type 0 where
+  pub shows : state u ≡ s
+  pub keeps : Keeps t u
+
 -- the table is that of a board of its lists, for tenants that choose by C, made with this first number and after these calls
 pub record After (C : Policy) (first : ℕ) (cs : List States.Call) (t : Table) : Type 0 where
   pub settled : t.settled.places ≡ settled_list (market t.lists) C
   pub reached : state t ≡ board (market t.lists) C first cs
 
 -- the table u comes from t by one call more
-abbrev pub GoesOn : Policy → States.Call → Table → Table → Type 0
-GoesOn C c t u = (first : ℕ) (cs : List States.Call) → After C first cs t → After C first (cs ++ (c ∷ [])) u
+pub record GoesOn (C : Policy) (c : States.Call) (t u : Table) : Type 0 where
+  pub more : (first : ℕ) (cs : List States.Call) → After C first cs t → After C first (cs ++ (c ∷ [])) u

@@ -1,52 +1,19 @@
 // What can be asked of a board.
-ghost use Rattle.std.specs.Prelude.{◌≡◌, ◌+◌, ◌<◌, ◌≤◌, length, take, Some, None, sum, slice_index};
+ghost use Rattle.std.specs.Prelude.{◌≡◌, ◌≤◌, length, sum};
 ghost use Rattle.std.specs.List.{slice_get};
 ghost use Rattle.rotation.specs.Listing.{shown};
-ghost use Rattle.board.specs.Pieces.{piece};
-ghost use Rattle.board.specs.Shown.{standing_in, state, drain_shown};
+ghost use Rattle.board.specs.Shown.{state, drain_shown};
 
 use crate::board::Board;
-use crate::drain::Drain;
-use crate::table::Table;
 use matching::Placement;
 use rotation::MoveList;
 
-impl Table {
-    // The moves of the standing rotations before one take so many places.
-    fn start_of(&self, index: usize) -> usize
-        requires { index ≤ self.now.count }
-        ensures { result ≡ sum (take index self.now.sizes) }
-    {
-        let mut start = 0;
-        for i in 0..index {
-            start += self.sizes[i] as usize;
-        }
-        start
-    }
-
-    // Where a standing rotation lies.
-    fn lies_behind(&self, index: usize)
-        ensures none { self.now.count ≤ index → slice_get (standing_in self.now) index ≡ None }
-        ensures there { index < self.now.count → slice_get (standing_in self.now) index ≡ Some (piece (sum (take index self.now.sizes)) (slice_index self.now.sizes index) self.now.moves) }
-        ensures room { index < self.now.count → sum (take index self.now.sizes) + slice_index self.now.sizes index ≤ 960 }
-        ensures few { index < self.now.count → slice_index self.now.sizes index ≤ 64 }
-    {}
-
-    // A standing rotation, the oldest first.
-    fn standing_at(&self, index: usize) -> Option<MoveList>
-        ensures { shown result ≡ slice_get (standing_in self.now) index }
-    {
-        self.lies_behind(index);
-        if index >= self.count {
-            return None;
-        }
-        Some(self.piece(self.start_of(index), self.sizes[index]))
-    }
-
-    // How many rotations stand.
-    fn stand_in_all(&self)
-        ensures { self.now.count ≡ length (standing_in self.now) }
-    {}
+// How many moves rotations of these sizes have.
+fn moves_of(sizes: &[u8]) -> usize
+    requires { length sizes.now ≤ 480 }
+    ensures { result ≡ sum sizes.now }
+{
+    sizes.iter().map(|size| usize::from(*size)).sum()
 }
 
 impl<P> Board<P> {
@@ -65,25 +32,33 @@ impl<P> Board<P> {
     }
 
     /// How many rotations stand.
+    #[tactic(auto, using(crate::proofs::Held::standing_long))]
     pub fn standing(&self) -> usize
         ensures { result ≡ length (state self.now.table).standing }
     {
-        self.table.stand_in_all();
         self.table.count
     }
 
     /// A standing rotation, 0 for the one that was committed first.
+    #[tactic(auto, using(crate::proofs::Held::standing_piece, crate::proofs::Held::standing_none, crate::proofs::Held::size_room, crate::proofs::Held::standing_few))]
     pub fn standing_rotation(&self, index: usize) -> Option<MoveList>
         ensures { shown result ≡ slice_get (state self.now.table).standing index }
     {
-        self.table.standing_at(index)
+        let table = &self.table;
+        if index >= table.count {
+            return None;
+        }
+        let start = moves_of(&table.sizes[..index]);
+        Some(table.piece(start, table.sizes[index]))
     }
 
     /// The number and the moves of the drain, if one is set.
     pub fn drain(&self) -> Option<(u64, MoveList)>
         ensures { drain_shown result ≡ (state self.now.table).drain }
     {
-        self.table.drained()
+        let drained = self.table.drain?;
+        let moves = self.table.piece(self.table.len, drained.size);
+        Some((drained.number, moves))
     }
 
     /// The number of the next event.
@@ -91,17 +66,5 @@ impl<P> Board<P> {
         ensures { result ≡ (state self.now.table).next }
     {
         self.table.next
-    }
-}
-
-impl Table {
-    // The number and the moves of the drain.
-    fn drained(&self) -> Option<(u64, MoveList)>
-        ensures { drain_shown result ≡ (state self.now).drain }
-    {
-        match self.drain {
-            Drain::Shut => None,
-            Drain::Draining { number, size } => Some((number, self.piece(self.len, size))),
-        }
     }
 }

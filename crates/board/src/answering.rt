@@ -1,45 +1,32 @@
 // What a table answers to a call, by its drain and the call together.
-ghost use Rattle.std.specs.Prelude.{◌≡◌, ℕ, ◌<◌, ◌≤◌, length, Ok, Err};
-ghost use Rattle.runs.specs.States.Ticket.{blank, numbered};
+ghost use Rattle.std.specs.Prelude.{◌≡◌, [], Some, None};
 ghost use Rattle.runs.specs.Calls.{matches, last_of, open_on, committing, withdrawing, back_over, rewind_to};
-ghost use Rattle.board.specs.declared.call.Call.TheVariants.{Open};
-ghost use Rattle.board.specs.declared.drain.Drain.TheVariants.{Shut, Draining};
 ghost use Rattle.board.specs.Pieces.{piece};
-ghost use Rattle.board.specs.Shown.{standing_in, state, ticket_in, offered, answered, Drainable, Offers, Keeps};
-ghost use Rattle.board.specs.Answers.{said, count_in, slip_after, ticket_of};
+ghost use Rattle.board.specs.Shown.{standing_in, state, ticket_in, answered, Drainable, Offers};
+ghost use Rattle.board.specs.Answers.{Answered};
 
 use crate::call::Call;
-use crate::drain::Drain;
+use crate::drain::Drained;
 use crate::refusal::Refusal;
 use crate::slips::{event, write_events};
 use crate::table::Table;
-use fleet::Event;
-
-// Is a ticket, live or not and with this number, that of the drain?
-fn is_for(live: bool, given: u64, number: u64) -> bool
-    ensures { result ≡ matches (ticket_in live given) number }
-{
-    live && given == number
-}
+use fleet::{Event, EventKind};
 
 impl Table {
-    // Opens the drain of a worker's rotation, which has so many moves behind the standing ones, 0
-    // where it is on none.
-    pub(crate) fn open(&mut self, worker: u8, size: u8, slip: &mut [Event]) -> Result<u8, Refusal>
-        requires offers { 0 < size → Drainable self.old size }
-        requires slip { 64 ≤ length slip.old }
-        ensures state { state self.new ≡ (open_on (state self.old) worker (offered size (piece self.old.len size self.old.moves))).0 }
-        ensures answer { said result ≡ count_in (open_on (state self.old) worker (offered size (piece self.old.len size self.old.moves))).1 }
-        ensures slip { slip.new ≡ slip_after (open_on (state self.old) worker (offered size (piece self.old.len size self.old.moves))).1 slip.old }
-        ensures keeps { Keeps self.old self.new }
+    // Opens the drain of a worker's rotation, which has so many moves behind the standing ones.
+    pub(crate) fn open(
+        &mut self,
+        worker: u8,
+        size: u8,
+        slip: &mut [Event; 64],
+    ) -> Result<u8, Refusal>
+        requires { Drainable self.old size }
+        ensures { Answered self.old self.new result slip.old slip.new (open_on (state self.old) worker (Some (piece self.old.len size self.old.moves))) }
     {
-        if size == 0 {
-            return Err(Refusal::NoRotation);
-        }
         if self.is_short(1 + size as u64) {
             return Err(Refusal::NumbersShort);
         }
-        slip[0] = event(self.next, 1, self.own_move(worker, size));
+        slip[0] = event(self.next, EventKind::Drain, self.own_move(worker, size));
         self.drain(size);
         Ok(1)
     }
@@ -47,36 +34,28 @@ impl Table {
     // Commits the drained rotation.
     fn commit(
         &mut self,
-        number: u64,
-        size: u8,
-        live: bool,
-        given: u64,
-        slip: &mut [Event],
+        drained: Drained,
+        ticket: Option<u64>,
+        slip: &mut [Event; 64],
     ) -> Result<u8, Refusal>
-        requires drain { self.old.drain ≡ Draining number size }
-        requires slip { 64 ≤ length slip.old }
-        ensures state { state self.new ≡ (committing (state self.old) (piece self.old.len size self.old.moves) (matches (ticket_in live given) number)).0 }
-        ensures answer { said result ≡ count_in (committing (state self.old) (piece self.old.len size self.old.moves) (matches (ticket_in live given) number)).1 }
-        ensures slip { slip.new ≡ slip_after (committing (state self.old) (piece self.old.len size self.old.moves) (matches (ticket_in live given) number)).1 slip.old }
-        ensures keeps { Keeps self.old self.new }
+        requires { self.old.drain ≡ Some drained }
+        ensures { Answered self.old self.new result slip.old slip.new (committing (state self.old) (piece self.old.len drained.size self.old.moves) (matches (ticket_in ticket) drained.number)) }
     {
-        if !is_for(live, given, number) {
+        if ticket != Some(drained.number) {
             return Err(Refusal::OtherTicket);
         }
-        let moves = self.piece(self.len, size);
+        let moves = self.piece(self.len, drained.size);
         let after = moves.applied_to(&self.current);
-        let events = write_events(&moves, self.next, 2, slip);
-        self.stand(size, after);
+        let events = write_events(&moves, self.next, EventKind::Move, slip);
+        self.stand(drained, after);
         Ok(events)
     }
 
-    // Withdraws the drained rotation.
-    fn withdraw(&mut self, number: u64, live: bool, given: u64) -> Result<u8, Refusal>
-        ensures state { state self.new ≡ (withdrawing (state self.old) (matches (ticket_in live given) number)).0 }
-        ensures answer { said result ≡ count_in (withdrawing (state self.old) (matches (ticket_in live given) number)).1 }
-        ensures keeps { Keeps self.old self.new }
+    // Withdraws the drained rotation, with no event, so a slip of no entries serves.
+    fn withdraw(&mut self, drained: Drained, ticket: Option<u64>) -> Result<u8, Refusal>
+        ensures { Answered self.old self.new result [] [] (withdrawing (state self.old) (matches (ticket_in ticket) drained.number)) }
     {
-        if !is_for(live, given, number) {
+        if ticket != Some(drained.number) {
             return Err(Refusal::OtherTicket);
         }
         self.shut();
@@ -84,85 +63,58 @@ impl Table {
     }
 
     // Undoes all that stands and is drained.
-    fn rewind(&mut self, slip: &mut [Event]) -> Result<u8, Refusal>
-        requires slip { 64 ≤ length slip.old }
-        ensures state { state self.new ≡ (rewind_to (state self.old) self.old.settled.places).0 }
-        ensures answer { said result ≡ count_in (rewind_to (state self.old) self.old.settled.places).1 }
-        ensures slip { slip.new ≡ slip_after (rewind_to (state self.old) self.old.settled.places).1 slip.old }
-        ensures keeps { Keeps self.old self.new }
+    fn rewind(&mut self, slip: &mut [Event; 64]) -> Result<u8, Refusal>
+        ensures { Answered self.old self.new result slip.old slip.new (rewind_to (state self.old) self.old.settled.places) }
     {
         let moves = self.returns();
         if self.is_short(moves.as_slice().len() as u64) {
             return Err(Refusal::NumbersShort);
         }
-        let events = write_events(&moves, self.next, 4, slip);
+        let events = write_events(&moves, self.next, EventKind::Rewind, slip);
         self.reset(events);
         Ok(events)
     }
 
     // Takes the last standing rotation back.
-    fn back(&mut self, slip: &mut [Event]) -> Result<u8, Refusal>
-        requires shut { self.old.drain ≡ Shut }
-        requires slip { 64 ≤ length slip.old }
-        ensures state { state self.new ≡ (back_over (state self.old) (last_of (standing_in self.old))).0 }
-        ensures answer { said result ≡ count_in (back_over (state self.old) (last_of (standing_in self.old))).1 }
-        ensures slip { slip.new ≡ slip_after (back_over (state self.old) (last_of (standing_in self.old))).1 slip.old }
-        ensures keeps { Keeps self.old self.new }
+    #[tactic(auto, using(crate::proofs::Held::last_is, crate::proofs::Held::last_none, crate::proofs::Held::last_long, crate::proofs::Held::last_inside, crate::proofs::Held::last_few))]
+    fn back(&mut self, slip: &mut [Event; 64]) -> Result<u8, Refusal>
+        requires { self.old.drain ≡ None }
+        ensures { Answered self.old self.new result slip.old slip.new (back_over (state self.old) (last_of (standing_in self.old))) }
     {
-        self.last_lies_behind();
         if self.count == 0 {
             return Err(Refusal::NoneStanding);
         }
-        let size = self.last_size();
+        let size = self.sizes[self.count - 1];
         if self.is_short(size as u64) {
             return Err(Refusal::NumbersShort);
         }
         let moves = self.piece(self.len - size as usize, size).reversed();
         let after = moves.applied_to(&self.current);
-        let events = write_events(&moves, self.next, 3, slip);
+        let events = write_events(&moves, self.next, EventKind::Back, slip);
         self.fall(size, after);
         Ok(events)
     }
 
-    // Answers a call in plain numbers.
-    pub(crate) fn answer(&mut self, call: Call, slip: &mut [Event]) -> Result<u8, Refusal>
-        requires offers { Offers self.old call }
-        requires slip { 64 ≤ length slip.old }
-        ensures state { state self.new ≡ (answered self.old call).0 }
-        ensures answer { said result ≡ count_in (answered self.old call).1 }
-        ensures slip { slip.new ≡ slip_after (answered self.old call).1 slip.old }
-        ensures keeps { Keeps self.old self.new }
+    // Answers a call in plain numbers. Kept: one match on the drain and the call together, so that what is done in each case is read in one place.
+    pub(crate) fn answer(&mut self, call: Call, slip: &mut [Event; 64]) -> Result<u8, Refusal>
+        requires { Offers self.old call }
+        ensures { Answered self.old self.new result slip.old slip.new (answered self.old call) }
     {
         match (self.drain, call) {
-            (Drain::Shut, Call::Open { worker, size }) => self.open(worker, size, slip),
-            (Drain::Shut, Call::Commit { live: _, number: _ }) => Err(Refusal::NoDrain),
-            (Drain::Shut, Call::Withdraw { live: _, number: _ }) => Err(Refusal::NoDrain),
-            (Drain::Shut, Call::Back) => self.back(slip),
-            (Drain::Draining { number: _, size: _ }, Call::Open { worker: _, size: _ }) => Err(
-                Refusal::DrainSet,
-            ),
+            (None, Call::Open { size: None, .. }) => Err(Refusal::NoRotation),
             (
-                Drain::Draining { number, size },
-                Call::Commit {
-                    live,
-                    number: given,
+                None,
+                Call::Open {
+                    worker,
+                    size: Some(size),
                 },
-            ) => self.commit(number, size, live, given, slip),
-            (
-                Drain::Draining { number, size: _ },
-                Call::Withdraw {
-                    live,
-                    number: given,
-                },
-            ) => self.withdraw(number, live, given),
-            (Drain::Draining { number: _, size: _ }, Call::Back) => Err(Refusal::DrainSet),
+            ) => self.open(worker, size, slip),
+            (None, Call::Commit { .. } | Call::Withdraw { .. }) => Err(Refusal::NoDrain),
+            (None, Call::Back) => self.back(slip),
+            (Some(_), Call::Open { .. } | Call::Back) => Err(Refusal::DrainSet),
+            (Some(drained), Call::Commit { ticket }) => self.commit(drained, ticket, slip),
+            (Some(drained), Call::Withdraw { ticket }) => self.withdraw(drained, ticket),
             (_, Call::Rewind) => self.rewind(slip),
         }
     }
-
-    // The ticket of an open that is accepted has the next number, and that of one that is not is blank.
-    pub(crate) fn opens_under_next(&self, worker: u8, size: u8)
-        ensures ticket { (n : ℕ) → Ok n ≡ count_in (answered self.now (Open worker size)).1 → numbered self.now.next ≡ ticket_of (answered self.now (Open worker size)).1 }
-        ensures blank { (n : ℕ) → Err n ≡ count_in (answered self.now (Open worker size)).1 → blank ≡ ticket_of (answered self.now (Open worker size)).1 }
-    {}
 }

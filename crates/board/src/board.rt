@@ -1,27 +1,25 @@
 // The board and its calls.
-ghost use Rattle.std.specs.Prelude.{◌≡◌, ◌<◌, []};
+ghost use Rattle.std.specs.Prelude.{◌≡◌, [], IfSome};
 ghost use Rattle.fleet.specs.Lists.{market};
 ghost use Rattle.matching.specs.Entries.{place};
 ghost use Rattle.matching.specs.Settling.{settled_rounds};
 ghost use Rattle.matching.specs.Stable.{Given, Stable, WorkerBest};
 ghost use Rattle.rotation.specs.Listing.{shown};
-ghost use Rattle.rotation.specs.Moves.{rotation_at, Rotates};
-ghost use Rattle.runs.specs.States as States;
+ghost use Rattle.rotation.specs.Moves.{rotation_at};
 ghost use Rattle.runs.specs.States.Call.{open_for, commit as commit_by, withdraw as withdraw_by, back as back_by, rewind as rewind_by};
-ghost use Rattle.runs.specs.Calls.{settled_list, made};
+ghost use Rattle.runs.specs.Calls.{made};
 ghost use Rattle.runs.specs.Laws.{BoardLaws, BoardBounds};
-ghost use Rattle.board.specs.declared.table.Table.{Table};
 ghost use Rattle.board.specs.declared.call.Call.TheVariants.{Open};
-ghost use Rattle.board.specs.Shown.{state, answered, called, Drainable, Keeps, After, GoesOn};
-ghost use Rattle.board.specs.Answers.{said, count_in, slip_after, ticket_of, ticket_said};
+ghost use Rattle.board.specs.Shown.{state, answered, called, Drainable, After, Becomes};
+ghost use Rattle.board.specs.Answers.{ticket_of, ticket_said};
+ghost use Rattle.board.specs.Done.{CallDone};
 
 use crate::call::Call;
-use crate::drain::Drain;
 use crate::refusal::Refusal;
 use crate::table::Table;
 use crate::ticket::Ticket;
 use fleet::{Event, Lists};
-use matching::{Staffing, settle};
+use matching::{Farm, Situation, Staffing};
 use policy::Policy;
 use rotation::{MoveList, rotation_of};
 use runs::{boards_keep_bounds, boards_keep_laws};
@@ -49,8 +47,11 @@ impl<P: Policy> Board<P> {
     {
         boards_keep_laws();
         boards_keep_bounds();
-        is_given(&lists, &policy);
-        let found = settle(&lists, &policy);
+        let farm = Farm {
+            lists: &lists,
+            policy: &policy,
+        };
+        let found = farm.settle();
         let table = Table::new(lists, found.placement, first);
         (Board { policy, table }, found.rounds)
     }
@@ -58,19 +59,15 @@ impl<P: Policy> Board<P> {
     /// Drains the rotation of a worker: one event, with the ticket of the drain. Refused where a
     /// drain is set, then where the worker is on no rotation, then where numbers are short for the
     /// event and the moves; the ticket is blank then.
+    // Kept: the ticket stands beside the answer, so that there is one in any case, and a refused
+    // open answers a blank one.
+    #[tactic(auto, using(crate::proofs::Going::goes_on))]
     pub fn open(&mut self, worker: u8, slip: &mut [Event; 64]) -> (Result<u8, Refusal>, Ticket)
-        ensures state { state self.new.table ≡ (called (P.Policy.chosen self.old.policy) self.old.table (open_for worker)).0 }
-        ensures answer { said result.0 ≡ count_in (called (P.Policy.chosen self.old.policy) self.old.table (open_for worker)).1 }
-        ensures slip { slip.new ≡ slip_after (called (P.Policy.chosen self.old.policy) self.old.table (open_for worker)).1 slip.old }
+        ensures done { CallDone P.Policy.chosen (open_for worker) self.old self.new result.0 slip.old slip.new }
         ensures ticket { ticket_said result.1 ≡ ticket_of (called (P.Policy.chosen self.old.policy) self.old.table (open_for worker)).1 }
-        ensures keeps { Keeps self.old.table self.new.table }
-        ensures policy { self.new.policy ≡ self.old.policy }
-        ensures after { GoesOn (P.Policy.chosen self.old.policy) (open_for worker) self.old.table self.new.table }
     {
-        self.goes_on();
         let number = self.table.next;
         let size = self.offer(worker);
-        self.table.opens_under_next(worker, size);
         let answer = self.table.answer(Call::Open { worker, size }, slip);
         let ticket = match answer {
             Ok(_) => Ticket::of(number),
@@ -82,110 +79,71 @@ impl<P: Policy> Board<P> {
     /// Makes the moves of the drained rotation, one event each by rising worker number; the
     /// rotation stands then. Refused where no drain is set, then where the ticket is blank or not
     /// that of the drain. The ticket is spent in any case.
+    #[tactic(auto, using(crate::proofs::Going::goes_on))]
     pub fn commit(&mut self, ticket: Ticket, slip: &mut [Event; 64]) -> Result<u8, Refusal>
-        ensures state { state self.new.table ≡ (called (P.Policy.chosen self.old.policy) self.old.table (commit_by (ticket_said ticket))).0 }
-        ensures answer { said result ≡ count_in (called (P.Policy.chosen self.old.policy) self.old.table (commit_by (ticket_said ticket))).1 }
-        ensures slip { slip.new ≡ slip_after (called (P.Policy.chosen self.old.policy) self.old.table (commit_by (ticket_said ticket))).1 slip.old }
-        ensures keeps { Keeps self.old.table self.new.table }
-        ensures policy { self.new.policy ≡ self.old.policy }
-        ensures after { GoesOn (P.Policy.chosen self.old.policy) (commit_by (ticket_said ticket)) self.old.table self.new.table }
+        ensures { CallDone P.Policy.chosen (commit_by (ticket_said ticket)) self.old self.new result slip.old slip.new }
     {
-        self.goes_on();
-        let (live, number) = ticket.spend();
-        self.table.answer(Call::Commit { live, number }, slip)
+        let ticket = ticket.spend();
+        self.table.answer(Call::Commit { ticket }, slip)
     }
 
     /// Lets the drain go, without an event. Refused like a commit, and the ticket is spent too.
+    #[tactic(auto, using(crate::proofs::Going::goes_on))]
     pub fn withdraw(&mut self, ticket: Ticket) -> Result<u8, Refusal>
-        ensures state { state self.new.table ≡ (called (P.Policy.chosen self.old.policy) self.old.table (withdraw_by (ticket_said ticket))).0 }
-        ensures answer { said result ≡ count_in (called (P.Policy.chosen self.old.policy) self.old.table (withdraw_by (ticket_said ticket))).1 }
-        ensures keeps { Keeps self.old.table self.new.table }
-        ensures policy { self.new.policy ≡ self.old.policy }
-        ensures after { GoesOn (P.Policy.chosen self.old.policy) (withdraw_by (ticket_said ticket)) self.old.table self.new.table }
+        ensures { CallDone P.Policy.chosen (withdraw_by (ticket_said ticket)) self.old self.new result [] [] }
     {
-        self.goes_on();
-        let (live, number) = ticket.spend();
-        let mut slip = [no_event(); 64];
-        self.table
-            .answer(Call::Withdraw { live, number }, &mut slip)
+        let ticket = ticket.spend();
+        let mut slip = [Event::default(); 64];
+        self.table.answer(Call::Withdraw { ticket }, &mut slip)
     }
 
     /// Takes the last standing rotation back. Refused where a drain is set, then where no rotation
     /// stands, then where numbers are short for its moves.
+    #[tactic(auto, using(crate::proofs::Going::goes_on))]
     pub fn back(&mut self, slip: &mut [Event; 64]) -> Result<u8, Refusal>
-        ensures state { state self.new.table ≡ (called (P.Policy.chosen self.old.policy) self.old.table (back_by)).0 }
-        ensures answer { said result ≡ count_in (called (P.Policy.chosen self.old.policy) self.old.table (back_by)).1 }
-        ensures slip { slip.new ≡ slip_after (called (P.Policy.chosen self.old.policy) self.old.table (back_by)).1 slip.old }
-        ensures keeps { Keeps self.old.table self.new.table }
-        ensures policy { self.new.policy ≡ self.old.policy }
-        ensures after { GoesOn (P.Policy.chosen self.old.policy) (back_by) self.old.table self.new.table }
+        ensures { CallDone P.Policy.chosen back_by self.old self.new result slip.old slip.new }
     {
-        self.goes_on();
         self.table.answer(Call::Back, slip)
     }
 
     /// Returns every worker to where the board settled, with no drain and no standing rotation.
     /// Refused where numbers are short for the workers that return.
+    #[tactic(auto, using(crate::proofs::Going::goes_on))]
     pub fn rewind(&mut self, slip: &mut [Event; 64]) -> Result<u8, Refusal>
-        ensures state { state self.new.table ≡ (called (P.Policy.chosen self.old.policy) self.old.table (rewind_by)).0 }
-        ensures answer { said result ≡ count_in (called (P.Policy.chosen self.old.policy) self.old.table (rewind_by)).1 }
-        ensures slip { slip.new ≡ slip_after (called (P.Policy.chosen self.old.policy) self.old.table (rewind_by)).1 slip.old }
-        ensures keeps { Keeps self.old.table self.new.table }
-        ensures policy { self.new.policy ≡ self.old.policy }
-        ensures after { GoesOn (P.Policy.chosen self.old.policy) (rewind_by) self.old.table self.new.table }
+        ensures { CallDone P.Policy.chosen rewind_by self.old self.new result slip.old slip.new }
     {
-        self.goes_on();
         self.table.answer(Call::Rewind, slip)
     }
 
     // Lays the moves of a worker's rotation behind the standing ones, unless a drain is set: how
-    // many there are, 0 for none.
-    fn offer(&mut self, worker: u8) -> u8
-        ensures state { state self.new.table ≡ state self.old.table }
-        ensures keeps { Keeps self.old.table self.new.table }
+    // many there are, if the worker is on one.
+    fn offer(&mut self, worker: u8) -> Option<u8>
+        ensures same { Becomes self.old.table self.new.table (state self.old.table) }
         ensures policy { self.new.policy ≡ self.old.policy }
-        ensures ready { 0 < result → Drainable self.new.table result }
+        ensures ready { IfSome result (Drainable self.new.table) }
         ensures asked { answered self.new.table (Open worker result) ≡ called (P.Policy.chosen self.old.policy) self.old.table (open_for worker) }
     {
-        match self.table.drain {
-            Drain::Draining { number: _, size: _ } => 0,
-            Drain::Shut => {
-                let staffing = Staffing::new(self.table.current);
-                match self.rotation(&staffing, worker) {
-                    None => 0,
-                    Some(moves) => self.table.lay(&moves),
-                }
-            }
+        if self.table.drain.is_some() {
+            return None;
         }
+        let staffing = Staffing::new(self.table.current);
+        let moves = self.rotation(&staffing, worker)?;
+        Some(self.table.lay(&moves))
     }
 
-    // The rotation of a worker.
+    // The rotation of a worker. Kept: a situation lends what stands in the function that makes it, so
+    // each function makes its own.
     fn rotation(&self, staffing: &Staffing, worker: u8) -> Option<MoveList>
         ensures { shown result ≡ rotation_at (market self.now.table.lists) (P.Policy.chosen self.now.policy) (place staffing.now.placement.places) worker }
     {
-        rotation_of(&self.table.lists, &self.policy, staffing, worker)
-    }
-
-    // Whatever comes from this table by one call comes from the board by one call more.
-    fn goes_on(&self)
-        ensures { (c : States.Call) (u : Table) → Keeps self.now.table u → state u ≡ (called (P.Policy.chosen self.now.policy) self.now.table c).0 → GoesOn (P.Policy.chosen self.now.policy) c self.now.table u }
-    {}
-}
-
-// The lists are sound, and the policy keeps the laws.
-fn is_given<P: Policy>(lists: &Lists, policy: &P)
-    ensures { Given (market lists.now) (P.Policy.chosen policy.now) }
-{}
-
-// An event of nothing.
-pub(crate) fn no_event() -> Event
-    ensures { result ≡ record { number = 0; kind = 0; worker = 0; from = 0; to = 0 } }
-{
-    Event {
-        number: 0,
-        kind: 0,
-        worker: 0,
-        from: 0,
-        to: 0,
+        let farm = Farm {
+            lists: &self.table.lists,
+            policy: &self.policy,
+        };
+        let now = Situation {
+            farm: &farm,
+            staffing,
+        };
+        rotation_of(&now, worker)
     }
 }

@@ -1,12 +1,12 @@
 // The calls as they reach a board's table.
 
-/// A call in plain numbers. An open has the size of the worker's rotation, 0 where it is on none;
-/// a ticket is live or blank, and has a number.
-#[derive(Clone, Copy)]
+/// A call in plain numbers. An open has the size of the worker's rotation, if it is on one; a
+/// ticket is the number of its drain, if it is not blank.
+#[derive(Clone, Copy, Debug, PartialEq, Eq)]
 pub enum Call {
-    Open { worker: u8, size: u8 },
-    Commit { live: bool, number: u64 },
-    Withdraw { live: bool, number: u64 },
+    Open { worker: u8, size: Option<u8> },
+    Commit { ticket: Option<u64> },
+    Withdraw { ticket: Option<u64> },
     Back,
     Rewind,
 }

@@ -1,8 +1,8 @@
-// Whether a rotation is drained.
+// What is drained.
 
-/// Nothing is drained, or so many moves under an event number.
-#[derive(Clone, Copy)]
-pub enum Drain {
-    Shut,
-    Draining { number: u64, size: u8 },
+/// A drained rotation: its event number, and how many moves it has.
+#[derive(Clone, Copy, Debug, PartialEq, Eq)]
+pub struct Drained {
+    pub number: u64,
+    pub size: u8,
 }

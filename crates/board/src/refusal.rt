@@ -6,17 +6,17 @@ ghost use Rattle.board.specs.Answers.{refusal_number};
 #[derive(Clone, Copy, PartialEq, Eq, Debug)]
 pub enum Refusal {
     /// The worker is on no rotation.
-    NoRotation,
+    NoRotation = 40,
     /// A drain is set.
-    DrainSet,
+    DrainSet = 41,
     /// No drain is set.
-    NoDrain,
+    NoDrain = 42,
     /// The ticket is blank, or not that of the drain.
-    OtherTicket,
+    OtherTicket = 43,
     /// There are not enough event numbers left.
-    NumbersShort,
+    NumbersShort = 44,
     /// No rotation stands.
-    NoneStanding,
+    NoneStanding = 45,
 }
 
 impl Refusal {
@@ -24,13 +24,6 @@ impl Refusal {
     pub fn number(self) -> u8
         ensures { result ≡ refusal_number self }
     {
-        match self {
-            Refusal::NoRotation => 40,
-            Refusal::DrainSet => 41,
-            Refusal::NoDrain => 42,
-            Refusal::OtherTicket => 43,
-            Refusal::NumbersShort => 44,
-            Refusal::NoneStanding => 45,
-        }
+        self as u8
     }
 }

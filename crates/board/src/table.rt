@@ -5,13 +5,14 @@ ghost use Rattle.matching.specs.Entries.{place};
 ghost use Rattle.runs.specs.Descent.{leads, led_to};
 ghost use Rattle.board.specs.Pieces.{cut, size_of, number_of, opened};
 
-use crate::drain::Drain;
+use crate::drain::Drained;
 use fleet::{Lists, Move};
 use matching::Placement;
 
 /// The lists, the settled and the current placement, the moves of the standing rotations one
 /// behind the other, the size of each rotation, the drain, whose moves lie behind the standing
-/// ones, and the next event number.
+/// ones, and the next event number. A board allocates nothing, so the arrays have all the room
+/// that its rotations can ever need, with their lengths beside them.
 #[derive(Drop)]
 pub struct Table {
     pub(crate) lists: Lists,
@@ -21,7 +22,7 @@ pub struct Table {
     pub(crate) len: usize,
     pub(crate) sizes: [u8; 480],
     pub(crate) count: usize,
-    pub(crate) drain: Drain,
+    pub(crate) drain: Option<Drained>,
     pub(crate) next: u64,
     ghost rooms: { length moves ≡ 960 },
     ghost slots: { length sizes ≡ 480 },

@@ -1,69 +1,30 @@
 // Boards of two small sheets: drains, moves, the way back, and every refusal.
+use crate::given::{self, event};
 use board::{Board, Refusal, Ticket};
-use fleet::{Event, Lists, Ranking};
+use fleet::Event;
 use policy::Ranked;
 use std::test::Fail;
 
-/// A ranking of these numbers.
-fn ranking<const N: usize>(numbers: &[u8]) -> Result<Ranking<N>, Fail> {
-    let mut list = Ranking::empty();
-    for number in numbers {
-        list.push(*number)?;
-    }
-    Ok(list)
-}
-
-/// Worker 0 and worker 1 each have the other's favourite tenant, and worker 2 waits.
+/// A board of the ring.
 fn ring(first: u64) -> Result<Board<Ranked>, Fail> {
-    let mut lists = Lists::new(3, 2)?;
-    lists.set(0, ranking(&[0, 1])?)?;
-    lists.set(1, ranking(&[1, 0])?)?;
-    lists.set(2, ranking(&[0])?)?;
-    let mut tenants = Ranked::empty();
-    tenants.push(1, ranking(&[1, 0, 2])?)?;
-    tenants.push(1, ranking(&[0, 1])?)?;
+    let (lists, tenants) = given::ring()?;
     Ok(Board::make(lists, tenants, first).0)
 }
 
-/// Workers 0 and 1 share tenant 0, which likes workers 2 and 3 better.
+/// A board of the market where two share a tenant.
 fn shared() -> Result<Board<Ranked>, Fail> {
-    let mut lists = Lists::new(4, 3)?;
-    lists.set(0, ranking(&[0, 1])?)?;
-    lists.set(1, ranking(&[0, 2])?)?;
-    lists.set(2, ranking(&[1, 0])?)?;
-    lists.set(3, ranking(&[2, 0])?)?;
-    let mut tenants = Ranked::empty();
-    tenants.push(2, ranking(&[2, 3, 0, 1])?)?;
-    tenants.push(1, ranking(&[0, 2])?)?;
-    tenants.push(1, ranking(&[1, 3])?)?;
+    let (lists, tenants) = given::shared()?;
     Ok(Board::make(lists, tenants, 1).0)
 }
 
-/// An event's number and kind, and who went from where to where.
-#[derive(Clone, Copy, PartialEq, Debug)]
-struct Entry(u64, u8, u8, u8, u8);
-
-fn entry_of(event: Event) -> Entry {
-    Entry(event.number, event.kind, event.worker, event.from, event.to)
-}
-
+/// A slip with nothing on it.
 fn empty_slip() -> [Event; 64] {
-    let nothing = Event {
-        number: 0,
-        kind: 0,
-        worker: 0,
-        from: 0,
-        to: 0,
-    };
-    [nothing; 64]
+    [Event::default(); 64]
 }
 
 /// The number of a refusal, 0 for none.
 fn refused(answer: Result<u8, Refusal>) -> u8 {
-    match answer {
-        Ok(_) => 0,
-        Err(refusal) => refusal.number(),
-    }
+    answer.map_or_else(Refusal::number, |_| 0)
 }
 
 /// Opens for a worker and withdraws: the number of the refusal to open, 0 for none.
@@ -92,10 +53,10 @@ fn the_ring_turns_once(rt: HostRuntime) -> Result<(), Fail> {
     let committed = board.commit(ticket, &mut moved);
     assert_eq!(rt; opened, Ok(1));
     assert_eq!(rt; number, Some(1));
-    assert_eq!(rt; entry_of(drained[0]), Entry(1, 1, 0, 0, 1));
+    assert_eq!(rt; drained[0], event(1, 1, 0, 0, 1));
     assert_eq!(rt; committed, Ok(2));
-    assert_eq!(rt; entry_of(moved[0]), Entry(2, 2, 0, 0, 1));
-    assert_eq!(rt; entry_of(moved[1]), Entry(3, 2, 1, 1, 0));
+    assert_eq!(rt; moved[0], event(2, 2, 0, 0, 1));
+    assert_eq!(rt; moved[1], event(3, 2, 1, 1, 0));
     assert_eq!(rt; board.next_number(), 4);
     for worker in 0..4 {
         assert_eq!(rt; try_open(&mut board, worker), 40);
@@ -109,13 +70,13 @@ fn the_ring_goes_back(rt: HostRuntime) -> Result<(), Fail> {
     turn(&mut board, 1);
     let mut slip = empty_slip();
     assert_eq!(rt; board.back(&mut slip), Ok(2));
-    assert_eq!(rt; entry_of(slip[0]), Entry(4, 3, 0, 1, 0));
-    assert_eq!(rt; entry_of(slip[1]), Entry(5, 3, 1, 0, 1));
+    assert_eq!(rt; slip[0], event(4, 3, 0, 1, 0));
+    assert_eq!(rt; slip[1], event(5, 3, 1, 0, 1));
     assert_eq!(rt; refused(board.back(&mut slip)), 45);
     turn(&mut board, 1);
     assert_eq!(rt; board.rewind(&mut slip), Ok(2));
-    assert_eq!(rt; entry_of(slip[0]), Entry(9, 4, 0, 1, 0));
-    assert_eq!(rt; entry_of(slip[1]), Entry(10, 4, 1, 0, 1));
+    assert_eq!(rt; slip[0], event(9, 4, 0, 1, 0));
+    assert_eq!(rt; slip[1], event(10, 4, 1, 0, 1));
     assert_eq!(rt; board.standing(), 0);
     assert_eq!(rt; board.rewind(&mut slip), Ok(0));
     Ok(())
@@ -158,11 +119,11 @@ fn two_share_a_tenant(rt: HostRuntime) -> Result<(), Fail> {
     let mut board = shared()?;
     assert_eq!(rt; try_open(&mut board, 0), 40);
     let slip = turn(&mut board, 1);
-    assert_eq!(rt; entry_of(slip[0]), Entry(2, 2, 1, 0, 2));
-    assert_eq!(rt; entry_of(slip[1]), Entry(3, 2, 3, 2, 0));
+    assert_eq!(rt; slip[0], event(2, 2, 1, 0, 2));
+    assert_eq!(rt; slip[1], event(3, 2, 3, 2, 0));
     let slip = turn(&mut board, 0);
-    assert_eq!(rt; entry_of(slip[0]), Entry(5, 2, 0, 0, 1));
-    assert_eq!(rt; entry_of(slip[1]), Entry(6, 2, 2, 1, 0));
+    assert_eq!(rt; slip[0], event(5, 2, 0, 0, 1));
+    assert_eq!(rt; slip[1], event(6, 2, 2, 1, 0));
     assert_eq!(rt; board.standing(), 2);
     Ok(())
 }

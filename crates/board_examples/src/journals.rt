@@ -1,43 +1,15 @@
 // Events added to a journal and read back, and journals that are damaged.
+use crate::given::event;
 use fleet::Event;
 use journal::{AddRefusal, EventReader, JournalFault, add};
 
-/// What a reader answered: the numbers of an event, or the number and the place of a fault.
-#[derive(Clone, Copy, PartialEq, Debug)]
-enum Answer {
-    Numbers(u64, u8, u8, u8, u8),
-    End,
-    Fault { number: u8, at: usize },
-}
-
-fn seen(found: Result<Option<Event>, JournalFault>) -> Answer {
-    match found {
-        Ok(Some(event)) => {
-            Answer::Numbers(event.number, event.kind, event.worker, event.from, event.to)
-        }
-        Ok(None) => Answer::End,
-        Err(fault) => {
-            let report = fault.report();
-            Answer::Fault {
-                number: report.number,
-                at: report.at,
-            }
-        }
-    }
-}
-
-fn event(number: u64, kind: u8, worker: u8, from: u8, to: u8) -> Event {
-    Event {
-        number,
-        kind,
-        worker,
-        from,
-        to,
-    }
+/// What a reader answered: an event or the end, or the number and the place of a fault.
+fn seen(found: Result<Option<Event>, JournalFault>) -> Result<Option<Event>, (u8, usize)> {
+    found.map_err(|fault| (fault.report().number, fault.report().at))
 }
 
 /// What is answered at the first byte of a journal.
-fn first(bytes: &[u8]) -> Answer {
+fn first(bytes: &[u8]) -> Result<Option<Event>, (u8, usize)> {
     let mut reader = EventReader::new(bytes);
     seen(reader.next())
 }
@@ -49,11 +21,11 @@ fn added_events_are_read(rt: HostRuntime) {
     assert!(rt; buffer[0..15] == [7, 12, 0, 2, 1, 0, 0, 0, 0, 0, 0, 1, 63, 0, 15]);
     assert_eq!(rt; add(&mut buffer, 15, event(u64::MAX, 4, 0, 15, 0)), Ok(30));
     let mut reader = EventReader::new(&buffer[0..30]);
-    assert_eq!(rt; seen(reader.next()), Answer::Numbers(258, 1, 63, 0, 15));
+    assert_eq!(rt; seen(reader.next()), Ok(Some(event(258, 1, 63, 0, 15))));
     assert_eq!(rt; reader.place(), 15);
-    assert_eq!(rt; seen(reader.next()), Answer::Numbers(u64::MAX, 4, 0, 15, 0));
-    assert_eq!(rt; seen(reader.next()), Answer::End);
-    assert_eq!(rt; seen(reader.next()), Answer::End);
+    assert_eq!(rt; seen(reader.next()), Ok(Some(event(u64::MAX, 4, 0, 15, 0))));
+    assert_eq!(rt; seen(reader.next()), Ok(None));
+    assert_eq!(rt; seen(reader.next()), Ok(None));
     assert_eq!(rt; reader.place(), 30);
 }
 
@@ -81,15 +53,15 @@ fn refused_events_are_not_written(rt: HostRuntime) {
 #[test]
 fn damaged_journals_have_faults(rt: HostRuntime) {
     let good = [7, 12, 0, 5, 0, 0, 0, 0, 0, 0, 0, 1, 2, 3, 4];
-    assert_eq!(rt; first(&good), Answer::Numbers(5, 1, 2, 3, 4));
-    assert_eq!(rt; first(&good[0..14]), Answer::Fault { number: 10, at: 0 });
-    assert_eq!(rt; first(&[8, 1, 0, 0]), Answer::Fault { number: 11, at: 0 });
-    assert_eq!(rt; first(&[7, 1, 0, 0]), Answer::Fault { number: 12, at: 0 });
+    assert_eq!(rt; first(&good), Ok(Some(event(5, 1, 2, 3, 4))));
+    assert_eq!(rt; first(&good[0..14]), Err((10, 0)));
+    assert_eq!(rt; first(&[8, 1, 0, 0]), Err((11, 0)));
+    assert_eq!(rt; first(&[7, 1, 0, 0]), Err((12, 0)));
     let mut bad = good;
     bad[14] = 16;
-    assert_eq!(rt; first(&bad), Answer::Fault { number: 13, at: 14 });
+    assert_eq!(rt; first(&bad), Err((13, 14)));
     bad[11] = 0;
-    assert_eq!(rt; first(&bad), Answer::Fault { number: 13, at: 11 });
+    assert_eq!(rt; first(&bad), Err((13, 11)));
 }
 
 #[test]
@@ -98,8 +70,8 @@ fn faults_stay(rt: HostRuntime) {
         7, 12, 0, 5, 0, 0, 0, 0, 0, 0, 0, 1, 2, 3, 4, 7, 12, 0, 6, 0, 0, 0, 0, 0, 0, 0, 1, 64, 3, 4,
     ];
     let mut reader = EventReader::new(&journal);
-    assert_eq!(rt; seen(reader.next()), Answer::Numbers(5, 1, 2, 3, 4));
-    assert_eq!(rt; seen(reader.next()), Answer::Fault { number: 13, at: 27 });
-    assert_eq!(rt; seen(reader.next()), Answer::Fault { number: 13, at: 27 });
+    assert_eq!(rt; seen(reader.next()), Ok(Some(event(5, 1, 2, 3, 4))));
+    assert_eq!(rt; seen(reader.next()), Err((13, 27)));
+    assert_eq!(rt; seen(reader.next()), Err((13, 27)));
     assert_eq!(rt; reader.place(), 15);
 }

@@ -1,10 +1,11 @@
 // Journals read and written, printed as the independent program prints them.
 use anyhow::Context;
 use fleet::Event;
-use journal::{AddRefusal, EventReader, add};
+use journal::{EventReader, add};
 use std::alloc::Global;
 use std::io;
 
+// Kept: a buffer and how much of it is used, as whoever adds to a journal has them.
 /// A journal that is being written: its buffer, and how many bytes of it are used.
 #[derive(Drop)]
 pub(crate) struct Written {
@@ -29,8 +30,7 @@ impl Written {
                 self.used = used;
                 print!(rt; "accepted {used} ")?;
             }
-            Err(AddRefusal::OutOfRange) => print!(rt; "refused 13 ")?,
-            Err(AddRefusal::NoRoom) => print!(rt; "refused 50 ")?,
+            Err(refusal) => print!(rt; "refused {} ", refusal.number())?,
         }
         for byte in self.buffer.iter().take(self.used) {
             print!(rt; "{byte:02x}")?;
@@ -42,32 +42,30 @@ impl Written {
 /// The events of a journal, and its end or its fault.
 pub(crate) fn print_journal(rt: &HostRuntime, bytes: &[u8]) -> io::Result<()> {
     let mut reader = EventReader::new(bytes);
+    // Kept: a count of rounds, since each event takes 15 bytes and a reader may be asked again at its end.
     for _ in 0..bytes.len() / 15 + 1 {
         match reader.next() {
             Ok(Some(event)) => print_event(rt, event)?,
             Ok(None) => return println!(rt; "end {}", reader.place()),
-            Err(fault) => {
-                let report = fault.report();
-                let number = report.number;
-                let at = report.at;
-                let layer = report.layer;
-                return println!(rt; "fault {number} at {at} layer {layer} sets 0 0");
-            }
+            Err(fault) => return println!(rt; "{}", fault.report()),
         }
     }
     Ok(())
 }
 
-/// An event on one line.
+/// An event on one line, all in numbers.
 fn print_event(rt: &HostRuntime, event: Event) -> io::Result<()> {
-    let number = event.number;
-    let kind = event.kind;
-    let worker = event.worker;
-    let from = event.from;
-    let to = event.to;
+    let Event {
+        number,
+        kind,
+        worker,
+        from,
+        to,
+    } = event;
     println!(rt; "event {number} {kind} {worker} {from} {to}")
 }
 
+// Kept: `Event` is not this crate's, so it cannot have its `FromStr` here.
 /// The event that five numbers say: its number, kind, worker, from and to.
 fn event_of(numbers: &str) -> anyhow::Result<Event> {
     let mut words = numbers.split(' ');

@@ -1,9 +1,9 @@
 // Scripts of board calls, each call printed as the independent program prints it, with what it must have left alone.
-use crate::seen::{Seen, SheetBoard, State, same_events};
+use crate::seen::{Seen, SheetBoard, State};
 use anyhow::anyhow;
 use board::{Board, Refusal, Ticket};
 use fleet::Event;
-use sheet::sheet::Sheet;
+use report::read_input;
 use std::alloc::Global;
 use std::fmt;
 
@@ -14,10 +14,7 @@ const RING: &[u8] = b"\x01\x02\x00\x03\x02\
 
 /// A board of the sheet that bytes say, and the rounds that it took.
 fn board_of(bytes: &[u8], first: u64) -> anyhow::Result<(SheetBoard, u16)> {
-    let mut sheet = Sheet::blank();
-    if sheet.read(bytes).is_err() {
-        return Err(anyhow!("no sheet"));
-    }
+    let sheet = read_input(bytes)?;
     Ok(Board::make(sheet.lists(), sheet.policy(), first))
 }
 
@@ -44,29 +41,18 @@ fn ticket_of(text: &str) -> anyhow::Result<Ticket> {
     Ok(ticket)
 }
 
-/// What is said of the ticket that a call hands out.
-#[derive(Clone, Copy)]
-enum Issued {
-    Nothing,
-    Blank,
-    Numbered(u64),
-}
-
-/// What a call answered, and the slip as it is then.
+/// What a call answered, the number of the ticket that it handed out, if it handed one out and if that is not blank, and the slip as it is then.
 #[derive(Clone, Copy)]
 struct Answer {
     result: Result<u8, Refusal>,
-    issued: Issued,
+    issued: Option<Option<u64>>,
     slip: [Event; 64],
 }
 
 impl Answer {
     /// How many entries of the slip are filled.
     fn filled(&self) -> usize {
-        match self.result {
-            Ok(count) => count as usize,
-            Err(_) => 0,
-        }
+        self.result.map_or(0, usize::from)
     }
 }
 
@@ -74,23 +60,22 @@ impl fmt::Display for Answer {
     fn fmt<W: fmt::Write>(&self, f: &mut fmt::Formatter<W>) -> fmt::Result {
         match self.result {
             Ok(count) => write!(f, "accepted {count}")?,
-            Err(refusal) => {
-                let number = refusal.number();
-                write!(f, "refused {number}")?;
-            }
+            Err(refusal) => write!(f, "refused {}", refusal.number())?,
         }
         match self.issued {
-            Issued::Nothing => {}
-            Issued::Blank => write!(f, " ticket blank")?,
-            Issued::Numbered(number) => write!(f, " ticket {number}")?,
+            None => {}
+            Some(None) => write!(f, " ticket blank")?,
+            Some(Some(number)) => write!(f, " ticket {number}")?,
         }
         write!(f, " slip")?;
         for event in self.slip.iter().take(self.filled()) {
-            let number = event.number;
-            let kind = event.kind;
-            let worker = event.worker;
-            let from = event.from;
-            let to = event.to;
+            let Event {
+                number,
+                kind,
+                worker,
+                from,
+                to,
+            } = event;
             write!(f, " {number}.{kind}.{worker}.{from}.{to}")?;
         }
         Ok(())
@@ -166,19 +151,20 @@ impl Script {
 
     /// Whether the slip past the filled entries is as it was, and after a refusal the board too.
     fn is_kept(&self, answer: &Answer, seen: &Seen) -> bool {
-        same_events(&answer.slip, &self.slip, answer.filled())
-            && (answer.result.is_ok() || seen.is(&self.seen))
+        let mut rest = answer.slip.iter().zip(&self.slip).skip(answer.filled());
+        rest.all(|(now, before)| now == before) && (answer.result.is_ok() || *seen == self.seen)
     }
 
     /// Makes a call.
+    // Kept: the words are matched here once more, where each has its own arguments and the board.
     fn call(&mut self, word: &str, rest: &str) -> anyhow::Result<Answer> {
         let mut slip = self.slip;
-        let mut issued = Issued::Nothing;
+        let mut issued = None;
         let result = match word {
             "open" => {
                 let worker = rest.parse::<u8>()?;
                 let (result, ticket) = self.board.open(worker, &mut slip);
-                issued = self.spent(ticket);
+                issued = Some(self.spent(ticket));
                 result
             }
             "commit" => self.board.commit(ticket_of(rest)?, &mut slip),
@@ -194,13 +180,10 @@ impl Script {
         })
     }
 
-    /// What is said of a ticket, which is spent on the other board.
-    fn spent(&mut self, ticket: Ticket) -> Issued {
-        let issued = match ticket.number() {
-            None => Issued::Blank,
-            Some(number) => Issued::Numbered(number),
-        };
+    /// The number of a ticket, if it is not blank. The ticket is spent on the other board.
+    fn spent(&mut self, ticket: Ticket) -> Option<u64> {
+        let number = ticket.number();
         let _ = self.other.withdraw(ticket);
-        issued
+        number
     }
 }

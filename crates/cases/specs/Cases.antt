@@ -1,14 +1,13 @@
 -- Worked cases: what boards of small markets answer, and what is told of small tables, as one list that one computed test checks.
-use Rattle.std.specs.Prelude.{ℕ, ◌-◌, ◌^◌, Bool, true, false, ◌&&◌, T, List, [], ◌∷◌, map, length, take, Some, None, Option, ◌==◌, nat_eq, slice_index_or}
+use Rattle.std.specs.Prelude.{ℕ, ◌-◌, ◌^◌, Bool, true, false, ◌&&◌, IsTrue, List, [], ◌∷◌, map, take, ◌==◌, nat_eq}
 use Rattle.fleet.specs.Market.{Market}
 use Rattle.fleet.specs.declared.Event.{Event}
 use Rattle.policy.specs.Choice.{Policy}
-use Rattle.policy.specs.Kinds.{RankedRule, ranked_policy, seated_policy}
+use Rattle.policy.specs.Kinds.{ranked_policy, seated_policy}
 use Rattle.policy.specs.Combined.{joined}
-use Rattle.policy.specs.Faults.{law_number, table_fault}
-use Rattle.policy.specs.declared.fault.TableFault.{TableFault}
-use Rattle.policy.specs.declared.fault.TableFault.TheVariants.{Workers, Entries, Outside, Broken}
+use Rattle.policy.specs.Faults.{table_fault}
 use Rattle.matching.specs.Settling.{settled_rounds}
+use Rattle.rotation.specs.Cases.{market_of, first_of, same_entries, TableCase, fault_told, tables_of_two}
 use Rattle.runs.specs.States.{State, Ticket, Call, Answer}
 use Rattle.runs.specs.States.Ticket.{blank, numbered}
 use Rattle.runs.specs.States.Call.{open_for, commit, withdraw, back, rewind}
@@ -27,24 +26,9 @@ pub record Case : Type 0 where
   pub placed : List ℕ
   pub next : ℕ
 
--- the market of these lists
-abbrev pub market_of : ℕ → List (List ℕ) → Market
-market_of tenants lists = record { workers = length lists; tenants = tenants; list = λ w. slice_index_or lists w [] }
-
--- a tenant that chooses the first so many of its list
-abbrev pub first_of : ℕ → List ℕ → RankedRule
-first_of most list = record { «cap» = most; list = list }
-
 -- an event by its number, kind, worker, from and to
 abbrev pub ev : ℕ → ℕ → ℕ → ℕ → ℕ → Event
 ev n kind w a b = record { number = n; kind = kind; worker = w; from = a; to = b }
-
--- the lists are as long, and the same entry by entry
-abbrev pub same_entries : {A : Type 0} → (A → A → Bool) → List A → List A → Bool
-same_entries same [] [] = true
-same_entries same [] (b ∷ k) = false
-same_entries same (a ∷ l) [] = false
-same_entries same (a ∷ l) (b ∷ k) = same a b && same_entries same l k
 
 -- the tickets are the same
 abbrev pub same_ticket : Ticket → Ticket → Bool
@@ -80,19 +64,6 @@ holds c =
     (same_entries nat_eq (take m.workers (settled_list m C)) c.settled &&
     (same_entries same_answer (answers_of m C (made m C c.first) c.calls) c.answers &&
     (same_entries nat_eq (take m.workers end.placement) c.placed && end.next == c.next)))
-
--- a table of two workers: its entries, and what is told of them, the fault's number and its sets, or zeros where there is none
-pub record TableCase : Type 0 where
-  pub entries : List ℕ
-  pub told : List ℕ
-
--- the number of a fault and the sets that it names
-abbrev pub fault_told : Option TableFault → List ℕ
-fault_told None = 0 ∷ 0 ∷ 0 ∷ []
-fault_told (Some (Outside z)) = 20 ∷ z ∷ 0 ∷ []
-fault_told (Some (Broken law z y)) = law_number law ∷ z ∷ y ∷ []
-fault_told (Some Workers) = 12 ∷ 0 ∷ 0 ∷ []
-fault_told (Some Entries) = 12 ∷ 0 ∷ 0 ∷ []
 
 -- a worked case: a market, or a table
 pub data Worked : Type 0 where
@@ -218,15 +189,6 @@ twice = record {
   next = 6;
 }
 
--- four tables: one that keeps the laws, one that chooses outside its set, and one that breaks each of two laws
-abbrev pub tables_of_two : List TableCase
-tables_of_two =
-    record { entries = 0 ∷ 1 ∷ 2 ∷ 1 ∷ []; told = 0 ∷ 0 ∷ 0 ∷ [] }
-    ∷ record { entries = 0 ∷ 3 ∷ 2 ∷ 3 ∷ []; told = 20 ∷ 1 ∷ 0 ∷ [] }
-    ∷ record { entries = 0 ∷ 0 ∷ 2 ∷ 3 ∷ []; told = 21 ∷ 3 ∷ 1 ∷ [] }
-    ∷ record { entries = 0 ∷ 1 ∷ 2 ∷ 0 ∷ []; told = 22 ∷ 3 ∷ 1 ∷ [] }
-    ∷ []
-
 -- the cases
 abbrev pub cases : List Worked
 cases =
@@ -235,4 +197,4 @@ cases =
 
 -- every case holds
 abbrev pub CasesHold : Type 0
-CasesHold = T (all_hold cases)
+CasesHold = IsTrue (all_hold cases)

@@ -1,5 +1,5 @@
 // Sets of workers, rankings and the workers' lists.
-use fleet::{Lists, ListsRefusal, Ranking, Refusal, WorkerSet};
+use fleet::{EventKind, Lists, ListsRefusal, Ranking, Refusal, UnknownKind, WorkerSet};
 use std::test::Fail;
 
 #[test]
@@ -15,10 +15,28 @@ fn members_come_by_rising_number(rt: HostRuntime) {
     assert_eq!(rt; members.next(), Some(40));
     assert_eq!(rt; members.next(), None);
     let mut last = None;
-    for worker in set.iter() {
+    for worker in set {
         last = Some(worker);
     }
     assert_eq!(rt; last, Some(40));
+    assert!(rt; set == WorkerSet::from([40, 64, 3].as_slice()));
+}
+
+#[test]
+fn rankings_are_made_of_numbers(rt: HostRuntime) {
+    let made = Ranking::<16>::try_from([15, 0].as_slice());
+    assert!(rt; made.is_ok_and(|ranking| ranking.as_slice() == [15, 0].as_slice()));
+    let far = Ranking::<16>::try_from([15, 16, 15].as_slice());
+    assert_eq!(rt; far.err(), Some(Refusal::OutOfRange));
+    let twice = Ranking::<16>::try_from([15, 0, 15, 16].as_slice());
+    assert_eq!(rt; twice.err(), Some(Refusal::Repeated));
+}
+
+#[test]
+fn kinds_of_event_have_numbers(rt: HostRuntime) {
+    assert_eq!(rt; EventKind::try_from(4), Ok(EventKind::Rewind));
+    assert_eq!(rt; EventKind::Rewind.number(), 4);
+    assert_eq!(rt; EventKind::try_from(5), Err(UnknownKind(5)));
 }
 
 #[test]

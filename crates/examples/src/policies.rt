@@ -6,19 +6,11 @@ use policy::{
 use std::test::Fail;
 
 fn ranking(workers: &[u8]) -> Result<Ranking<64>, Refusal> {
-    let mut list = Ranking::empty();
-    for worker in workers {
-        list.push(*worker)?;
-    }
-    Ok(list)
+    Ranking::try_from(workers)
 }
 
 fn set(workers: &[u8]) -> WorkerSet {
-    let mut set = WorkerSet::empty();
-    for worker in workers {
-        set = set.with(*worker);
-    }
-    set
+    WorkerSet::from(workers)
 }
 
 fn fault(entries: &[u8]) -> Result<Option<TableFault>, Refusal> {

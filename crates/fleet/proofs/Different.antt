@@ -1,7 +1,7 @@
 -- Lists of different numbers: what stands where, one number more at the end, and that there are no more of them than numbers.
-use Rattle.std.proofs.Common.{◌≡◌, ℕ, zero, suc, ◌+◌, ◌<◌, ◌≤◌, true, false, not, ◌&&◌, ◌||◌, eqb, ltb, List, [], ◌∷◌, ◌++◌, length, get_or, drop, sym, refl, ap, ◌∙◌, ⊎_elim, add-one, arith, drop-cons}
-use Rattle.std.proofs.lemmas.List.{drop_all, at_drop_more, at_drop_all}
-use Rattle.std.proofs.lemmas.Bool.{cases_lt, both_ways, eq-eqb, ne_eqb, lt-ltb, le-ltb, and_parts, and_from, and_left, or_parts, or_right, not-true, not_from_false, cond-true, cond-false}
+use Rattle.std.proofs.Common.{◌≡◌, ℕ, zero, suc, ◌+◌, ◌<◌, ◌≤◌, true, false, not, ◌&&◌, ◌||◌, eqb, ltb, List, [], ◌∷◌, ◌++◌, length, get_or, drop, refl, ap, ◌∙◌, ⊎_elim, arith}
+use Rattle.std.proofs.lemmas.List.{at_drop_more}
+use Rattle.std.proofs.lemmas.Bool.{cases_lt, both_ways, eq-eqb, ne_eqb, lt-ltb, and_parts, and_from, or_parts, or_right, not-true, not_from_false, cond-true, cond-false}
 use Rattle.std.proofs.lemmas.Bool.Decides.{nat_tests}
 use Rattle.fleet.specs.Sets.{among, all_under}
 use Rattle.fleet.specs.Market.{rank, On, different}
@@ -84,24 +84,7 @@ under_from n (x ∷ xs) f =
     let i = under_from n xs (λ t h. f t (or_right (eqb x t) (among xs t) h)) in
     grind (arith, nat_tests)
 
--- the test and ranks in what is left of a list, one place on and at the end
-
-pub under_here : (n : ℕ) (l : List ℕ) (i : ℕ) → i < length l → n ≤ get_or l i 0 → all_under n (drop i l) ≡ false
-under_here n l i h k = at_drop_more (all_under n) l i 0 h ∙ and_left (ltb (get_or l i 0) n) (all_under n (drop (i + 1) l)) (le-ltb (get_or l i 0) n k)
+-- the test on what is left of a list, one place on
 
 pub under_more : (n : ℕ) (l : List ℕ) (i : ℕ) → i < length l → get_or l i 0 < n → all_under n (drop i l) ≡ all_under n (drop (i + 1) l)
 under_more n l i h k = at_drop_more (all_under n) l i 0 h ∙ ap (λ t. t && all_under n (drop (i + 1) l)) (lt-ltb (get_or l i 0) n k)
-
-pub under_end : (n : ℕ) (l : List ℕ) (i : ℕ) → length l ≤ i → all_under n (drop i l) ≡ true
-under_end n l i h = at_drop_all (all_under n) l i h
-
-pub rank_here : (l : List ℕ) (i t : ℕ) → i < length l → get_or l i 0 ≡ t → rank (drop i l) t ≡ 0
-rank_here l i t h e = ap (λ (d : List ℕ). rank d t) (drop-cons l i 0 h) ∙ cond-true (eqb (get_or l i 0) t) 0 (suc (rank (drop (suc i) l) t)) (eq-eqb (get_or l i 0) t e)
-
-pub rank_more : (l : List ℕ) (i t : ℕ) → i < length l → (get_or l i 0 ≡ t → ⊥) → rank (drop i l) t ≡ suc (rank (drop (i + 1) l) t)
-rank_more l i t h e =
-    ap (λ (d : List ℕ). rank d t) (drop-cons l i 0 h) ∙ cond-false (eqb (get_or l i 0) t) 0 (suc (rank (drop (suc i) l) t)) (ne_eqb (get_or l i 0) t e)
-    ∙ ap (λ (k : ℕ). suc (rank (drop k l) t)) (sym (add-one i))
-
-pub rank_end : (l : List ℕ) (i t : ℕ) → length l ≤ i → rank (drop i l) t ≡ 0
-rank_end l i t h = ap (λ (d : List ℕ). rank d t) (drop_all i l h)

@@ -9,3 +9,5 @@ pub mod Pushing
 pub mod Sound
 pub mod Rising
 mod Trailing
+pub mod Library
+pub mod OfNumbers

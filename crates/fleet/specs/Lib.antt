@@ -4,3 +4,5 @@ pub mod Market
 pub mod Members
 pub mod Rankings
 pub mod Lists
+pub mod Kinds
+pub mod OfNumbers

@@ -1,5 +1,6 @@
 -- Sets of workers, as tests on worker numbers, and how many members they have.
-use Rattle.std.specs.Prelude.{◌≡◌, ℕ, zero, suc, ◌+◌, ◌<◌, Bool, true, false, cond, not, ◌&&◌, ◌||◌, List, [], ◌∷◌, Some, None, Option, ◌==◌, nat_lt}
+use Rattle.std.specs.Prelude.{◌≡◌, ℕ, zero, suc, ◌+◌, ◌<◌, Bool, true, false, cond, not, ◌&&◌, ◌||◌, List, Some, None, Option, ◌==◌, nat_lt}
+use Rattle.std.specs.List.{list_any, list_all}
 
 -- a set of workers: `true` for each member's number
 abbrev pub Set : Type 0
@@ -15,13 +16,11 @@ singleton v w = w == v
 
 -- the workers of a list, as a set
 abbrev pub among : List ℕ → Set
-among [] v = false
-among (u ∷ us) v = u == v || among us v
+among us v = list_any (λ u. u == v) us
 
 -- the numbers of a list are all below n
 abbrev pub all_under : ℕ → List ℕ → Bool
-all_under n [] = true
-all_under n (u ∷ us) = nat_lt u n && all_under n us
+all_under n us = list_all (λ u. nat_lt u n) us
 
 -- the members of A and those of B
 abbrev pub union : Set → Set → Set

@@ -14,10 +14,10 @@ impl Lists {
     pub fn new(workers: u8, tenants: u8) -> Result<Lists, ListsRefusal>
         ensures { new_answer result ≡ making workers tenants }
     {
-        if workers < 1 || workers > 64 {
+        if !(1..=64).contains(&workers) {
             return Err(ListsRefusal::Workers);
         }
-        if tenants < 1 || tenants > 16 {
+        if !(1..=16).contains(&tenants) {
             return Err(ListsRefusal::Tenants);
         }
         Ok(empty_lists(workers, tenants))
@@ -53,7 +53,6 @@ impl Lists {
         ensures value { result ≡ (market self.now).workers }
         ensures sound { Sound (market self.now) }
     {
-        lists_are_sound(self);
         self.workers
     }
 
@@ -91,8 +90,3 @@ fn empty_lists(workers: u8, tenants: u8) -> Lists
         rows: [row; 64],
     }
 }
-
-/// Every value of `Lists` is sound. This computes nothing: it is called for what its contract says.
-fn lists_are_sound(lists: &Lists)
-    ensures { Sound (market lists.now) }
-{}

@@ -3,6 +3,8 @@ ghost use Rattle.std.specs.Prelude.{◌≡◌, ℕ, ◌<◌, ◌≤◌, true, le
 ghost use Rattle.fleet.specs.Sets.{among};
 ghost use Rattle.fleet.specs.Market.{different};
 
+// Kept: an array with its length beside it, so that rankings are copied freely and never ask for memory. One buffer type under rankings, rosters and lists
+// of moves would leave each of them its own three methods, as each has its own facts.
 /// Different numbers below `N`, in order, best first.
 #[derive(Clone, Copy)]
 pub struct Ranking<const N: usize> {

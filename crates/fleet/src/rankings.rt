@@ -1,11 +1,10 @@
 // What can be asked of a ranking, and how it grows.
-ghost use Rattle.std.specs.Prelude.{◌≡◌, ◌<◌, false, [], ◌∷◌, ◌++◌, length};
+ghost use Rattle.std.specs.Prelude.{◌≡◌, ◌<◌, ◌==◌, false, [], ◌∷◌, ◌++◌, length, position};
 ghost use Rattle.std.specs.List.{slice_get};
 ghost use Rattle.fleet.specs.Sets.{among, all_under};
 ghost use Rattle.fleet.specs.Market.{rank};
 ghost use Rattle.fleet.specs.Rankings.{listed, push_answer, pushing, pushed};
 
-use crate::numbers;
 use crate::ranking::{Ranking, Refusal};
 
 impl<const N: usize> Ranking<N> {
@@ -15,7 +14,7 @@ impl<const N: usize> Ranking<N> {
     {
         Ranking {
             len: 0,
-            items: numbers::zeros(),
+            items: [0; N],
         }
     }
 
@@ -23,8 +22,7 @@ impl<const N: usize> Ranking<N> {
     pub fn as_slice(&self) -> &[u8]
         ensures { result.now ≡ listed self.now }
     {
-        let items = &self.items[..];
-        &items[0..self.len]
+        &self.items[..self.len]
     }
 
     /// How many numbers are ranked.
@@ -38,28 +36,28 @@ impl<const N: usize> Ranking<N> {
     pub fn get(&self, place: usize) -> Option<u8>
         ensures { result ≡ slice_get (listed self.now) place }
     {
-        numbers::get(self.as_slice(), place)
+        self.as_slice().get(place).copied()
     }
 
     /// The place of a number, or the count of those ranked where it is not among them.
     pub fn rank(&self, number: u8) -> usize
         ensures { result ≡ rank (listed self.now) number }
     {
-        numbers::rank(self.as_slice(), number)
+        rank_among(self.as_slice(), number)
     }
 
     /// Is the number ranked?
     pub fn contains(&self, number: u8) -> bool
         ensures { result ≡ among (listed self.now) number }
     {
-        numbers::contains(self.as_slice(), number)
+        self.as_slice().contains(&number)
     }
 
     /// Are all numbers of the ranking below the bound?
     pub fn is_under(&self, bound: u8) -> bool
         ensures { result ≡ all_under bound (listed self.now) }
     {
-        numbers::are_under(self.as_slice(), bound)
+        self.as_slice().iter().all(|one| *one < bound)
     }
 
     /// Ranks a number last. A number at or past `N` is refused, then one that is there already;
@@ -86,4 +84,19 @@ impl<const N: usize> Ranking<N> {
         self.items[self.len] = number;
         self.len += 1;
     }
+}
+
+/// The place of a number among others, or the count of these where it is not among them.
+fn rank_among(numbers: &[u8], number: u8) -> usize
+    ensures { result ≡ rank numbers.now number }
+{
+    place_among(numbers, number).unwrap_or(numbers.len())
+}
+
+// A function of its own, since the search knows what `position` finds only where nothing follows it.
+/// The place of the first of the numbers that is this one.
+fn place_among(numbers: &[u8], number: u8) -> Option<usize>
+    ensures { result ≡ position (λ one. one == number) numbers.now }
+{
+    numbers.iter().position(|one| *one == number)
 }

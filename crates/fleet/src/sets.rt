@@ -78,8 +78,7 @@ impl WorkerSet {
     pub fn lowest(self) -> Option<u8>
         ensures { result ≡ lowest 64 (members self) }
     {
-        let low = words::lowest(self.bits);
-        if low < 64 { Some(low) } else { None }
+        words::lowest(self.bits)
     }
 
     /// The set without its lowest member, which leaves fewer.

@@ -1,5 +1,6 @@
-// Sets of the numbers 0 to 63 as the bits of one word: number w is a member where bit w is set.
-ghost use Rattle.std.specs.Prelude.{◌≡◌, if◌then◌else◌, Some, None, Decides, nat_lt};
+// Sets of the numbers 0 to 63 as the bits of one word: number w is a member where bit w is set. Kept apart from the sets of workers: what the operations on
+// bits do is proved here, and the methods of a set follow from these contracts with no proof of their own.
+ghost use Rattle.std.specs.Prelude.{◌≡◌, Decides};
 ghost use Rattle.fleet.specs.Sets.{nobody, with_worker, singleton, union, minus, Within, size, lowest};
 ghost use Rattle.fleet.specs.Members.{bit};
 
@@ -65,9 +66,10 @@ pub(crate) fn count(word: u64) -> u8
     word.count_ones() as u8
 }
 
-/// The lowest member, 64 where there is none.
-pub(crate) fn lowest(word: u64) -> u8
-    ensures { lowest 64 (bit word) ≡ (if nat_lt result 64 then Some result else None) }
+/// The lowest member.
+pub(crate) fn lowest(word: u64) -> Option<u8>
+    ensures { result ≡ lowest 64 (bit word) }
 {
-    word.trailing_zeros() as u8
+    let low = word.trailing_zeros() as u8;
+    if low < 64 { Some(low) } else { None }
 }

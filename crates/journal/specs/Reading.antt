@@ -2,19 +2,20 @@
 use Rattle.std.specs.Prelude.{ℕ, ◌+◌, cond, List, length, Some, None, Ok, Err, Option, Result, ◌==◌}
 use Rattle.fleet.specs.declared.Event.{Event}
 use Rattle.sheet.specs.declared.faults.FramingFault.{FramingFault}
+use Rattle.sheet.specs.declared.faults.Report.{Report}
+use Rattle.sheet.specs.Faults.{plain}
 use Rattle.sheet.specs.Framing.{Part, frame_at, input}
 use Rattle.journal.specs.declared.fault.JournalFault.{JournalFault}
 use Rattle.journal.specs.declared.fault.JournalFault.TheVariants.{Framing, Tag, Length, Range}
-use Rattle.journal.specs.declared.fault.FaultReport.{FaultReport}
 use Rattle.journal.specs.declared.reading.EventReader.{EventReader}
 use Rattle.journal.specs.Events.{event_of, outside}
 
--- what is told of a fault: its number, its place and its layer
-abbrev pub report_of : JournalFault → FaultReport
-report_of (Framing f) = record { number = 10; at = f.at; layer = 1 }
-report_of (Tag at) = record { number = 11; at = at; layer = 2 }
-report_of (Length at) = record { number = 12; at = at; layer = 2 }
-report_of (Range at) = record { number = 13; at = at; layer = 2 }
+-- what is told of a fault: its number, its place and its layer; there are no sets
+abbrev pub report_of : JournalFault → Report
+report_of (Framing f) = plain 10 f.at 1
+report_of (Tag at) = plain 11 at 2
+report_of (Length at) = plain 12 at 2
+report_of (Range at) = plain 13 at 2
 
 -- the event of the field at an offset, or the fault at the first of its numbers that is outside its range
 abbrev pub ranged : ℕ → Event → Option ℕ → Result Event JournalFault

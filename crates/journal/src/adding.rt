@@ -15,7 +15,6 @@ pub fn add(buffer: &mut [u8], used: usize, event: Event) -> Result<usize, AddRef
     ensures after { buffer.new ≡ added used event buffer.old }
     ensures again { (AddedIsRead event) × (JournalIsRead) }
 {
-    added_is_read(event);
     if !is_in_range(event) {
         return Err(AddRefusal::OutOfRange);
     }
@@ -25,11 +24,6 @@ pub fn add(buffer: &mut [u8], used: usize, event: Event) -> Result<usize, AddRef
     put_behind(buffer, used, event);
     Ok(used + 15)
 }
-
-// A lemma: it does nothing, and whoever calls it may use what it ensures. Events that were added are read again.
-fn added_is_read(event: Event)
-    ensures { (AddedIsRead event) × (JournalIsRead) }
-{}
 
 /// Writes the bytes of an event behind the first `used` bytes of a buffer that has room for them.
 fn put_behind(buffer: &mut [u8], used: usize, event: Event)

@@ -3,10 +3,11 @@ ghost use Rattle.std.specs.Prelude.{◌≡◌};
 ghost use Rattle.journal.specs.Reading.{report_of};
 ghost use Rattle.journal.specs.declared.fault.JournalFault.TheVariants.{Framing};
 
-use sheet::faults::FramingFault;
+use sheet::faults::{FramingFault, Report};
 
+// Kept beside the faults of a sheet's fields: these have cases that no journal has.
 /// A field of a journal is no event.
-#[derive(Clone, Copy)]
+#[derive(Clone, Copy, PartialEq, Eq, Debug)]
 pub enum JournalFault {
     /// It is cut off.
     Framing(FramingFault),
@@ -18,26 +19,17 @@ pub enum JournalFault {
     Range { at: usize },
 }
 
-/// What is told of a fault: its number, its place and its layer.
-#[derive(Clone, Copy)]
-pub struct FaultReport {
-    pub number: u8,
-    pub at: usize,
-    pub layer: u8,
-}
-
 impl JournalFault {
-    /// What is told of this fault.
-    pub fn report(self) -> FaultReport
+    /// What is told of this fault. There are no sets.
+    pub fn report(self) -> Report
         ensures { result ≡ report_of self }
     {
-        let (number, at, layer) = match self {
-            JournalFault::Framing(fault) => (10, fault.at, 1),
-            JournalFault::Tag { at } => (11, at, 2),
-            JournalFault::Length { at } => (12, at, 2),
-            JournalFault::Range { at } => (13, at, 2),
-        };
-        FaultReport { number, at, layer }
+        match self {
+            JournalFault::Framing(fault) => Report::plain(10, fault.at, 1),
+            JournalFault::Tag { at } => Report::plain(11, at, 2),
+            JournalFault::Length { at } => Report::plain(12, at, 2),
+            JournalFault::Range { at } => Report::plain(13, at, 2),
+        }
     }
 }
 

@@ -8,6 +8,6 @@ pub mod reading;
 pub mod refusal;
 
 pub use adding::add;
-pub use fault::{FaultReport, JournalFault};
+pub use fault::JournalFault;
 pub use reading::EventReader;
 pub use refusal::AddRefusal;

@@ -18,7 +18,6 @@ pub struct EventReader<'a> {
 
 /// The event that a field says.
 fn event_in(field: Frame<'_>) -> Result<Event, JournalFault>
-    requires { field.at + 3 + length field.content.now < 2 ^ 63 }
     ensures { result ≡ defined_event_in (part_of field.entry) }
 {
     let at = field.at;
@@ -35,18 +34,6 @@ fn event_in(field: Frame<'_>) -> Result<Event, JournalFault>
     }
 }
 
-// A lemma: what the calls of a reader hand out.
-fn reading_law(bytes: &[u8])
-    ensures { ReadingLaw bytes.now }
-{
-    let _ = bytes.len();
-}
-
-// A lemma: an event that is read has the bytes that adding it writes.
-fn read_is_written(reader: &EventReader<'_>)
-    ensures { ReadIsWritten (journal_of reader.now) (stands_at reader.now) }
-{}
-
 impl<'a> EventReader<'a> {
     /// A reader at the first byte.
     pub fn new(bytes: &'a [u8]) -> EventReader<'a>
@@ -54,7 +41,6 @@ impl<'a> EventReader<'a> {
         ensures place { stands_at result ≡ 0 }
         ensures law { ReadingLaw bytes.now }
     {
-        reading_law(bytes);
         EventReader {
             fields: Reader::new(bytes),
         }
@@ -74,7 +60,6 @@ impl<'a> EventReader<'a> {
         ensures input { journal_of self.new ≡ journal_of self.old }
         ensures again { ReadIsWritten (journal_of self.old) (stands_at self.old) }
     {
-        read_is_written(self);
         let mut fields = self.fields;
         let Some(field) = fields.next()? else {
             return Ok(None);

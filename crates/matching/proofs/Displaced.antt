@@ -3,7 +3,7 @@ use Rattle.std.proofs.Common.{◌≡◌, ℕ, ◌<◌, ◌≤◌, true, false, S
 use Rattle.std.proofs.lemmas.Bool.{cases_eq, and_parts, ltb-true, eqb-true, not-true, both_ways}
 use Rattle.std.proofs.lemmas.Bool.Decides.{nat_tests}
 use Rattle.fleet.specs.Sets.{Set, Within, Workers, insert, minus, singleton, size}
-use Rattle.fleet.specs.Market.{Market, Placement, rank, On, staff, depth}
+use Rattle.fleet.specs.Market.{Market, Sound, Placement, rank, On, staff, depth}
 use Rattle.fleet.proofs.Sizes.{false_since, size_within, size_insert, size_remove}
 use Rattle.policy.specs.Choice.{Policy}
 use Rattle.matching.specs.Stable.{Given, Stable, wants}
@@ -59,3 +59,9 @@ module _ {m : Market} {C : Policy} (given : Given m C) {x : Placement} (st : Sta
             size_remove (insert (staff x t) w) u (small u (grind arith)) (grind arith),
             size_remove (minus (insert (staff x t) w) (singleton u)) v (small v (grind arith)) (grind (arith, nat_tests)),
           )
+
+-- only workers step, and only to tenants
+pub step_range : {m : Market} → Sound m → (C : Policy) (x : Placement) (w t : ℕ) → step m C x w ≡ Some t → (w < 64) × (t < 16)
+step_range {m} sound C x w t e =
+    let on = (first_some (candidate m C x w) (m.list w) t e).0 in
+    (on_small sound w t on, omega (arith, sound.listed_below w t on, sound.few_tenants))

@@ -1,5 +1,5 @@
 -- A placement of the market's workers has no fault exactly where it is stable.
-use Rattle.std.proofs.Common.{◌≡◌, ℕ, ◌<◌, ◌≤◌, true, false, ◌||◌, eqb, ltb, ◌⊎◌, List, Some, None, Option, sym, refl, ap, ◌∙◌, inl, inr, arith}
+use Rattle.std.proofs.Common.{◌≡◌, ℕ, ◌<◌, ◌≤◌, true, false, ◌||◌, eqb, ltb, ◌⊎◌, ◌↔◌, List, Some, None, Option, sym, refl, ap, ◌∙◌, inl, inr, arith}
 use Rattle.std.proofs.lemmas.Bool.{cases_lt, cases_Bool, both_ways, eqb-true, eq-eqb, and_parts, and_from, or_cases, or_left, or_right, lt-ltb, le-ltb, ltb-true, cond-true, cond-false}
 use Rattle.std.proofs.lemmas.Bool.Decides.{nat_tests}
 use Rattle.fleet.specs.Sets.{Workers, among, lowest}
@@ -8,7 +8,7 @@ use Rattle.fleet.proofs.Sizes.{set_ext, same_at, false_since}
 use Rattle.fleet.proofs.First.{Some≢None, lowest_none, none_below}
 use Rattle.fleet.proofs.Different.{among_on}
 use Rattle.policy.specs.Choice.{Policy}
-use Rattle.matching.specs.Entries.{first_that}
+use Rattle.std.specs.List.{find}
 use Rattle.matching.specs.Stable.{Given, Prefers, Stable, Acceptable, wants}
 use Rattle.matching.specs.Checking.{placed_by, unlisted, unlisted_worker, unchosen, unacceptable_tenant, blocks, blocking_pair, fault_of, verdict}
 use Rattle.matching.proofs.Facts.{on_worker, on_small}
@@ -65,7 +65,7 @@ module _ {m : Market} {C : Policy} (given : Given m C) (x : Placement) where
 
     unblocked : (w t : ℕ) → On (m.list w) t → Prefers m x w t → wants C x w t ≡ false
     unblocked w t o p = false_since (wants C x w t) (λ h.
-        let calm = nothing_found (λ v. first_that (blocks m C x v) (m.list v)) m.workers none.2 w (on_worker given.sound w t o) in
+        let calm = nothing_found (λ v. find (blocks m C x v) (m.list v)) m.workers none.2 w (on_worker given.sound w t o) in
         let r = first_exists (blocks m C x w) (m.list w) t o (and_from _ _ (lt-ltb _ _ p) h) in
         Some≢None (sym r.1 ∙ calm))
 
@@ -74,10 +74,10 @@ module _ {m : Market} {C : Policy} (given : Given m C) (x : Placement) where
 
   -- and back
   module _ (st : Stable m C x) where
-    no_block : (w : ℕ) → first_that (blocks m C x w) (m.list w) ≡ None
-    no_block w = go (first_that (blocks m C x w) (m.list w)) refl
+    no_block : (w : ℕ) → find (blocks m C x w) (m.list w) ≡ None
+    no_block w = go (find (blocks m C x w) (m.list w)) refl
       where
-        go : (o : Option ℕ) → first_that (blocks m C x w) (m.list w) ≡ o → first_that (blocks m C x w) (m.list w) ≡ None
+        go : (o : Option ℕ) → find (blocks m C x w) (m.list w) ≡ o → find (blocks m C x w) (m.list w) ≡ None
         go None e = e
         go (Some t) e =
             let r = first_some (blocks m C x w) (m.list w) t e in
@@ -92,5 +92,10 @@ module _ {m : Market} {C : Policy} (given : Given m C) (x : Placement) where
         rw (
           nothing_there (unlisted m x) m.workers (λ w l. since_listed m x w (st.listed w)),
           nothing_there (λ t. lowest 64 (unchosen C x t)) m.tenants no_unchosen,
-          nothing_there (λ w. first_that (blocks m C x w) (m.list w)) m.workers (λ w l. no_block w),
+          nothing_there (λ w. find (blocks m C x w) (m.list w)) m.workers (λ w l. no_block w),
         )
+
+-- the verdict says that the placement is stable exactly where it is
+pub verdict_stable : {m : Market} {C : Policy} (given : Given m C) (x : Placement) → ((w : ℕ) → m.workers ≤ w → x w ≡ 255) → (answer : ℕ × ℕ × ℕ) →
+    answer ≡ verdict m C x → (answer ≡ (0, 0, 0)) ↔ Stable m C x
+verdict_stable given x past answer e = (λ h. faultless_stable given x past (sym e ∙ h), λ st. e ∙ stable_faultless given x st)

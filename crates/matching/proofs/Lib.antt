@@ -1,10 +1,10 @@
 -- Lemmas: single placements, any two, settling, faults, lists, and policies that choose alike.
-mod Staffs
 mod Standing
 pub mod Facts
 pub mod Polarity
 pub mod Counts
 pub mod Join
+mod Lattice
 pub mod Tabulate
 pub mod Rounds
 pub mod Settles

@@ -1,13 +1,10 @@
--- The lowest number for which something is found, one number more; and where nothing is found.
-use Rattle.std.proofs.Common.{◌≡◌, ℕ, zero, suc, ◌+◌, ◌<◌, ◌⊎◌, Some, None, Option, refl, inl, inr, add-one, arith}
+-- The lowest number for which something is found, and where nothing is found.
+use Rattle.std.proofs.Common.{◌≡◌, ℕ, zero, suc, ◌<◌, ◌⊎◌, Some, None, Option, refl, inl, inr, arith}
 use Rattle.std.proofs.lemmas.Bool.{cases_eq}
 use Rattle.fleet.proofs.First.{Some≢None}
 use Rattle.matching.specs.Checking.{lowest_with}
 
 module _ (f : ℕ → Option ℕ) where
-  pub found_none : (w : ℕ) → lowest_with w f ≡ None → f w ≡ None → lowest_with (w + 1) f ≡ None
-  found_none w e h = rw (add-one, e, h)
-
   -- what is found is found in more
   pub found_first : (w a n : ℕ) → lowest_with w f ≡ None → f w ≡ Some a → w < n → lowest_with n f ≡ Some (w, a)
   found_first w a zero e h l = absurd (omega arith)

@@ -1,11 +1,11 @@
--- Where the workers stand, one worker more; who is turned away, one tenant more; and one pair more closed.
-use Rattle.std.proofs.Common.{◌≡◌, ℕ, ◌+◌, ◌<◌, true, false, cond, eqb, ltb, List, length, get_or, set, replicate, sym, refl, ap, ◌∙◌, inl, inr, arith}
+-- Who is turned away, one tenant more; and one pair more closed.
+use Rattle.std.proofs.Common.{◌≡◌, ℕ, ◌+◌, ◌<◌, true, cond, eqb, List, length, get_or, set, replicate, sym, refl, ap, ◌∙◌, inl, inr, arith}
 use mathlib.Core.Path.{fun_ext}
-use Rattle.std.proofs.lemmas.List.{get_or-set_same, get_or-set_other, get_or_past, get_or-replicate, length-replicate, ext_get_or}
-use Rattle.std.proofs.lemmas.Bool.{cases_eq, cases_lt, eq-eqb, ne_eqb, false≢true}
+use Rattle.std.proofs.lemmas.List.{get_or-set_same, get_or-set_other, get_or-replicate, ext_get_or}
+use Rattle.std.proofs.lemmas.Bool.{cases_eq, eq-eqb, ne_eqb, false≢true}
 use Rattle.std.proofs.lemmas.Bool.Decides.{nat_tests}
 use Rattle.fleet.specs.Sets.{Set, Workers, nobody, singleton, union, minus}
-use Rattle.fleet.specs.Market.{Market, Sound, Placement, staff}
+use Rattle.fleet.specs.Market.{Market, Placement, staff}
 use Rattle.fleet.specs.Members.{members}
 use Rattle.fleet.specs.declared.worker_set.WorkerSet.{WorkerSet}
 use Rattle.fleet.proofs.Sizes.{set_ext, same_at}
@@ -23,35 +23,7 @@ get_d_set l i a d v h = elim (cases_eq v i) [
   | inr n ↦ rw (get_or-set_other l i v a d n, ne_eqb v i n)
 ]
 
--- before the first worker nobody stands
-pub stands_none : (x : Placement) (n v : ℕ) → place (replicate n 255) v ≡ cond (ltb v 0) (x v) 255
-stands_none x n v = elim (cases_lt v n) [
-  | inl q ↦ get_or-replicate n v 255 255 q ∙ grind (arith, nat_tests)
-  | inr q ↦ get_or_past (replicate n 255) v 255 (omega (arith, length-replicate {A = ℕ} n 255)) ∙ grind (arith, nat_tests)
-]
-
--- one worker more stands
-pub stands_more : (x : Placement) (l : List ℕ) (w t : ℕ) → w < length l → ((v : ℕ) → place l v ≡ cond (ltb v w) (x v) 255) → t ≡ x w →
-    (v : ℕ) → place (set l w t) v ≡ cond (ltb v (w + 1)) (x v) 255
-stands_more x l w t h f e v = let g = f v in let s = get_d_set l w t 255 v h in grind (arith, nat_tests)
-
--- all workers stand, and past them nobody does
-pub stands_all : {m : Market} → Sound m → (closed l : List ℕ) (n : ℕ) → n ≡ m.workers →
-    ((v : ℕ) → place l v ≡ cond (ltb v n) (stands m closed v) 255) → place l ≡ stands m closed
-stands_all {m} sound closed l n e f = fun_ext at
-  where
-    at : (v : ℕ) → place l v ≡ stands m closed v
-    at v = elim (cases_lt v n) [
-      | inl q ↦ (let g = f v in grind (arith, nat_tests))
-      | inr q ↦ (let g = f v in
-          let past : stands m closed v ≡ 255 = ap (λ (r : List ℕ). get_or r (get_or closed v 0) 255) (sound.past_empty v (omega arith)) in
-          grind (arith, nat_tests))
-    ]
-
 module _ (C : Policy) (x : Placement) (t : ℕ) where
-  pub away_none : (w : ℕ) → away C x 0 w ≡ false
-  away_none w = grind (arith, nat_tests)
-
   pub away_more : (w : ℕ) → union (away C x t) (minus (staff x t) (C t (staff x t))) w ≡ away C x (t + 1) w
   away_more w = elim (cases_eq (x w) t) [
     | inl e ↦ rw e (grind (arith, nat_tests))

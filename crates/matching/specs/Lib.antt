@@ -1,5 +1,6 @@
--- Definitions: stable placements, settling, the check, steps and laws.
+-- Definitions: farms, stable placements, settling, the check, steps and laws.
 pub mod Entries
+pub mod Farms
 pub mod Staffs
 pub mod Stable
 pub mod Settling

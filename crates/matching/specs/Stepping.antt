@@ -4,7 +4,7 @@ use Rattle.std.specs.Option.{option_map}
 use Rattle.fleet.specs.Sets.{Set, insert, lowest}
 use Rattle.fleet.specs.Market.{Market, Placement, rank, staff, depth}
 use Rattle.policy.specs.Choice.{Policy}
-use Rattle.matching.specs.Entries.{first_that}
+use Rattle.std.specs.List.{find}
 use Rattle.matching.specs.Stable.{wants}
 
 -- t ranks after w's own tenant, and wants w
@@ -13,7 +13,7 @@ candidate m C x w t = nat_lt (depth m x w) (rank (m.list w) t) && wants C x w t
 
 -- the first tenant of w's list that ranks after its own and wants w
 abbrev pub step : Market → Policy → Placement → ℕ → Option ℕ
-step m C x w = first_that (candidate m C x w) (m.list w)
+step m C x w = find (candidate m C x w) (m.list w)
 
 -- t's workers that it would let go for w
 abbrev pub put_out : Policy → Placement → ℕ → ℕ → Set

@@ -1,197 +1,171 @@
 // Checking a placement.
-ghost use Rattle.std.specs.Prelude.{◌≡◌, ◌<◌, ◌≤◌, ◌↔◌, length, take, drop};
+ghost use Rattle.std.specs.Prelude.{◌≡◌, ℕ, ◌<◌, ◌≤◌, ◌↔◌, length, take};
+ghost use Rattle.std.specs.List.{find};
 ghost use Rattle.fleet.specs.Sets.{lowest};
-ghost use Rattle.fleet.specs.Market.{rank};
-ghost use Rattle.fleet.specs.Rankings.{listed};
 ghost use Rattle.fleet.specs.Lists.{market};
-ghost use Rattle.matching.specs.Entries.{place, first_that};
-ghost use Rattle.matching.specs.Stable.{Stable, wants};
-ghost use Rattle.matching.specs.Checking.{placed_by, lowest_with, unlisted as unlisted_at, unlisted_worker as defined_unlisted_worker, unchosen as unchosen_at, unacceptable_tenant as defined_unacceptable_tenant, blocks, blocking_pair as defined_blocking_pair, fault_of, verdict as verdict_on};
+ghost use Rattle.matching.specs.Entries.{place};
+ghost use Rattle.matching.specs.Farms.{on_farm, placed, market_in, choices, in_situation};
+ghost use Rattle.matching.specs.Stable.{Stable};
+ghost use Rattle.matching.specs.Checking.{placed_by, FindsLowest, unlisted as unlisted_at, unlisted_worker, unchosen as unchosen_at, unacceptable_tenant, blocks, blocking_pair, numbers_of, faulty, told, verdict as verdict_on};
 ghost use Rattle.matching.specs.Laws.{LatticeLaws};
+ghost use Rattle.matching.specs.declared.checking.Fault.TheVariants.{Unlisted, Unchosen, Blocking};
 
+use crate::farm::{Farm, Situation};
 use crate::placement::Placement;
-use crate::settling::unchosen;
 use crate::staffing::Staffing;
-use crate::wanting::first_wanting;
-use fleet::{Lists, Ranking};
+use fleet::Lists;
 use policy::Policy;
 
-/// Checks a placement, where byte w is the tenant of worker w, 255 for none, and no byte past the
-/// workers is read. Stable is (0, 0, 0); else there are a number, a worker and a tenant:
-/// 30, the lowest worker whose tenant is not on its list, and its byte;
-/// 31, the lowest tenant whose workers are not acceptable, with the lowest worker not chosen;
-/// 32, the blocking pair of the lowest worker, first on its list; in this order.
-pub fn check<P: Policy>(lists: &Lists, policy: &P, places: &[u8; 64]) -> (u8, u8, u8)
-    ensures verdict { result ≡ verdict_on (market lists.now) (P.Policy.chosen policy.now) (placed_by (market lists.now) places.now) }
-    ensures stable { (result ≡ (0, 0, 0)) ↔ Stable (market lists.now) (P.Policy.chosen policy.now) (placed_by (market lists.now) places.now) }
-    ensures lattice { LatticeLaws (market lists.now) (P.Policy.chosen policy.now) }
-{
-    let staffing = staffing_of(lists, places);
-    let answer = verdict(lists, policy, &staffing);
-    verdict_means(lists, policy, places, &staffing, answer);
-    stable_placements_are_a_lattice(lists, policy);
-    answer
+// Why a placement is not stable, with the worker and the tenant in question.
+#[derive(Clone, Copy)]
+enum Fault {
+    // The worker's tenant is not on its list.
+    Unlisted { worker: u8, tenant: u8 },
+    // The tenant does not choose the worker out of its workers.
+    Unchosen { worker: u8, tenant: u8 },
+    // The worker and the tenant would both rather have each other.
+    Blocking { worker: u8, tenant: u8 },
+}
+
+impl Fault {
+    // The fault as its number, the worker and the tenant.
+    fn numbers(self) -> (u8, u8, u8)
+        ensures { result ≡ numbers_of self }
+    {
+        match self {
+            Fault::Unlisted { worker, tenant } => (30, worker, tenant),
+            Fault::Unchosen { worker, tenant } => (31, worker, tenant),
+            Fault::Blocking { worker, tenant } => (32, worker, tenant),
+        }
+    }
+}
+
+impl<P: Policy> Farm<'_, P> {
+    /// Checks a placement, where byte w is the tenant of worker w, 255 for none, and no byte past
+    /// the workers is read. Stable is (0, 0, 0); else there are a number, a worker and a tenant:
+    /// 30, the lowest worker whose tenant is not on its list, and its byte;
+    /// 31, the lowest tenant whose workers are not acceptable, with the lowest worker not chosen;
+    /// 32, the blocking pair of the lowest worker, first on its list; in this order.
+    // Kept: plain numbers, which callers take apart; inside, the fault is an enum.
+    pub fn check(&self, places: &[u8; 64]) -> (u8, u8, u8)
+        ensures verdict { result ≡ on_farm P.chosen self.now verdict_on (placed_by (market self.now.lists.now) places.now) }
+        ensures stable { (result ≡ (0, 0, 0)) ↔ on_farm P.chosen self.now Stable (placed_by (market self.now.lists.now) places.now) }
+        ensures lattice { on_farm P.chosen self.now LatticeLaws }
+    {
+        let staffing = staffing_of(self.lists, places);
+        let checked = Situation {
+            farm: self,
+            staffing: &staffing,
+        };
+        match checked.verdict() {
+            Ok(()) => (0, 0, 0),
+            Err(fault) => fault.numbers(),
+        }
+    }
 }
 
 // The placement that bytes give the workers.
 fn staffing_of(lists: &Lists, places: &[u8; 64]) -> Staffing
     ensures { place result.placement.places ≡ placed_by (market lists.now) places.now }
 {
-    let mut own = [255u8; 64];
-    for w in 0..lists.workers() {
-        own[w as usize] = places[w as usize];
-    }
+    let workers = lists.workers() as usize;
+    let mut own = [255; 64];
+    own[..workers].copy_from_slice(&places[..workers]);
     Staffing::new(Placement { places: own })
 }
 
-// What a verdict says of the placement that bytes give.
-fn verdict_means<P: Policy>(
-    lists: &Lists,
-    policy: &P,
-    places: &[u8; 64],
-    staffing: &Staffing,
-    answer: (u8, u8, u8),
-)
-    requires placed { place staffing.now.placement.places ≡ placed_by (market lists.now) places.now }
-    requires verdict { answer ≡ verdict_on (market lists.now) (P.Policy.chosen policy.now) (place staffing.now.placement.places) }
-    ensures verdict { answer ≡ verdict_on (market lists.now) (P.Policy.chosen policy.now) (placed_by (market lists.now) places.now) }
-    ensures stable { (answer ≡ (0, 0, 0)) ↔ Stable (market lists.now) (P.Policy.chosen policy.now) (placed_by (market lists.now) places.now) }
-{}
-
-// Any two stable placements have a join, and tenants and workers have opposite orders of them.
-fn stable_placements_are_a_lattice<P: Policy>(lists: &Lists, policy: &P)
-    ensures { LatticeLaws (market lists.now) (P.Policy.chosen policy.now) }
-{}
-
-// The first fault, or 0, 0, 0.
-fn verdict<P: Policy>(lists: &Lists, policy: &P, staffing: &Staffing) -> (u8, u8, u8)
-    ensures { result ≡ verdict_on (market lists.now) (P.Policy.chosen policy.now) (place staffing.now.placement.places) }
+// The lowest number below a count for which something is found, and what is found.
+fn lowest_with<F: Fn(u8) -> Option<u8>>(count: u8, found: F) -> Option<(u8, u8)>
+    requires { (n : ℕ) → n < count → F.pre found n }
+    ensures { FindsLowest (F.post found) count result }
 {
-    let unlisted = unlisted_worker(lists, staffing);
-    let unchosen = unacceptable_tenant(lists, policy, staffing);
-    let blocking = blocking_pair(lists, policy, staffing);
-    first_fault(unlisted, unchosen, blocking)
-}
-
-// A worker and its tenant that is not on its list, else a tenant and a worker of it that it does
-// not choose, else a pair that blocks.
-fn first_fault(
-    unlisted: Option<(u8, u8)>,
-    unchosen: Option<(u8, u8)>,
-    blocking: Option<(u8, u8)>,
-) -> (u8, u8, u8)
-    ensures { result ≡ fault_of unlisted unchosen blocking }
-{
-    match (unlisted, unchosen, blocking) {
-        (Some((worker, tenant)), _, _) => (30, worker, tenant),
-        (None, Some((tenant, worker)), _) => (31, worker, tenant),
-        (None, None, Some((worker, tenant))) => (32, worker, tenant),
-        (None, None, None) => (0, 0, 0),
-    }
-}
-
-// The lowest worker whose tenant is not on its list, and that tenant.
-fn unlisted_worker(lists: &Lists, staffing: &Staffing) -> Option<(u8, u8)>
-    ensures { result ≡ defined_unlisted_worker (market lists.now) (place staffing.now.placement.places) }
-{
-    unlisted_below(lists, staffing, lists.workers())
-}
-
-// The lowest worker below a number whose tenant is not on its list, and that tenant.
-fn unlisted_below(lists: &Lists, staffing: &Staffing, workers: u8) -> Option<(u8, u8)>
-    ensures { result ≡ lowest_with workers (unlisted_at (market lists.now) (place staffing.now.placement.places)) }
-{
-    for worker in 0..workers {
-        if let Some(tenant) = unlisted(lists, staffing, worker) {
-            return Some((worker, tenant));
+    for n in 0..count {
+        if let Some(a) = found(n) {
+            return Some((n, a));
         }
     }
     None
 }
 
-// The tenant of a worker, if it is not on the worker's list.
-fn unlisted(lists: &Lists, staffing: &Staffing, worker: u8) -> Option<u8>
-    ensures { result ≡ unlisted_at (market lists.now) (place staffing.now.placement.places) worker }
-{
-    let tenant = staffing.placement.tenant(worker);
-    if tenant == 255 || lists.list(worker).contains(tenant) {
-        None
-    } else {
-        Some(tenant)
+impl<P: Policy> Situation<'_, P> {
+    // Is the placement stable? Its first fault, where it is not.
+    fn verdict(&self) -> Result<(), Fault>
+        ensures { told result ≡ in_situation P.chosen self.now verdict_on }
+    {
+        self.all_listed()?;
+        self.all_acceptable()?;
+        self.none_blocks()
     }
-}
 
-// The lowest tenant whose workers are not acceptable, and the lowest that it does not choose.
-fn unacceptable_tenant<P: Policy>(
-    lists: &Lists,
-    policy: &P,
-    staffing: &Staffing,
-) -> Option<(u8, u8)>
-    ensures { result ≡ defined_unacceptable_tenant (market lists.now) (P.Policy.chosen policy.now) (place staffing.now.placement.places) }
-{
-    unacceptable_below(policy, staffing, lists.tenants())
-}
-
-// The lowest tenant below a number whose workers are not acceptable, and the lowest not chosen.
-fn unacceptable_below<P: Policy>(policy: &P, staffing: &Staffing, tenants: u8) -> Option<(u8, u8)>
-    requires { tenants ≤ 16 }
-    ensures { result ≡ lowest_with tenants (λ t. lowest 64 (unchosen_at (P.Policy.chosen policy.now) (place staffing.now.placement.places) t)) }
-{
-    for tenant in 0..tenants {
-        if let Some(worker) = unchosen(policy, tenant, staffing.staff(tenant)).lowest() {
-            return Some((tenant, worker));
+    // Is each worker's tenant on its list? Else the lowest worker whose tenant is not.
+    fn all_listed(&self) -> Result<(), Fault>
+        ensures { result ≡ faulty (λ w t. Unlisted w t) (unlisted_worker (market_in self.now) (placed self.now)) }
+    {
+        match lowest_with(self.farm.lists.workers(), |worker| self.unlisted(worker)) {
+            Some((worker, tenant)) => Err(Fault::Unlisted { worker, tenant }),
+            None => Ok(()),
         }
     }
-    None
-}
 
-// The lowest worker with a pair that blocks, and the first such tenant on its list.
-fn blocking_pair<P: Policy>(lists: &Lists, policy: &P, staffing: &Staffing) -> Option<(u8, u8)>
-    ensures { result ≡ defined_blocking_pair (market lists.now) (P.Policy.chosen policy.now) (place staffing.now.placement.places) }
-{
-    blocking_below(lists, policy, staffing, lists.workers())
-}
-
-// The lowest worker below a number with a pair that blocks, and the first such tenant on its list.
-fn blocking_below<P: Policy>(
-    lists: &Lists,
-    policy: &P,
-    staffing: &Staffing,
-    workers: u8,
-) -> Option<(u8, u8)>
-    requires { workers ≤ 64 }
-    ensures { result ≡ lowest_with workers (λ w. first_that (blocks (market lists.now) (P.Policy.chosen policy.now) (place staffing.now.placement.places) w) ((market lists.now).list w)) }
-{
-    for worker in 0..workers {
-        if let Some(tenant) = blocking(lists, policy, staffing, worker) {
-            return Some((worker, tenant));
+    // The tenant of a worker, if it is not on the worker's list.
+    fn unlisted(&self, worker: u8) -> Option<u8>
+        ensures { result ≡ unlisted_at (market_in self.now) (placed self.now) worker }
+    {
+        let tenant = self.staffing.placement.tenant(worker);
+        if tenant == 255 || self.farm.lists.list(worker).contains(tenant) {
+            None
+        } else {
+            Some(tenant)
         }
     }
-    None
+
+    // Are each tenant's workers acceptable? Else the lowest tenant whose workers are not, and the
+    // lowest worker that it does not choose.
+    fn all_acceptable(&self) -> Result<(), Fault>
+        ensures { result ≡ faulty (λ t w. Unchosen w t) (in_situation P.chosen self.now unacceptable_tenant) }
+    {
+        match lowest_with(self.farm.lists.tenants(), |tenant| self.unchosen(tenant)) {
+            Some((tenant, worker)) => Err(Fault::Unchosen { worker, tenant }),
+            None => Ok(()),
+        }
+    }
+
+    // The lowest of a tenant's workers that it does not choose out of them.
+    fn unchosen(&self, tenant: u8) -> Option<u8>
+        requires { tenant < 16 }
+        ensures { result ≡ lowest 64 (unchosen_at (choices P.chosen self.now) (placed self.now) tenant) }
+    {
+        self.farm
+            .unchosen(tenant, self.staffing.staff(tenant))
+            .lowest()
+    }
+
+    // Does no pair block? Else the lowest worker with a pair that does, and the first such tenant
+    // on its list.
+    fn none_blocks(&self) -> Result<(), Fault>
+        ensures { result ≡ faulty (λ w t. Blocking w t) (in_situation P.chosen self.now blocking_pair) }
+    {
+        match lowest_with(self.farm.lists.workers(), |worker| self.blocking(worker)) {
+            Some((worker, tenant)) => Err(Fault::Blocking { worker, tenant }),
+            None => Ok(()),
+        }
+    }
+
+    // The first tenant on a worker's list with which it blocks.
+    fn blocking(&self, worker: u8) -> Option<u8>
+        requires { worker < 64 }
+        ensures { result ≡ find (in_situation P.chosen self.now blocks worker) ((market_in self.now).list worker) }
+    {
+        let list = self.farm.lists.list(worker);
+        let own = list.rank(self.staffing.placement.tenant(worker));
+        self.first_wanting(worker, up_to(list.as_slice(), own))
+    }
 }
 
-// The first tenant on a worker's list with which it blocks.
-fn blocking<P: Policy>(lists: &Lists, policy: &P, staffing: &Staffing, worker: u8) -> Option<u8>
-    requires { worker < 64 }
-    ensures { result ≡ first_that (blocks (market lists.now) (P.Policy.chosen policy.now) (place staffing.now.placement.places) worker) ((market lists.now).list worker) }
+// The tenants before a place on a list.
+fn up_to(tenants: &[u8], place: usize) -> &[u8]
+    requires { place ≤ length tenants.now }
+    ensures { result.now ≡ take place tenants.now }
 {
-    let list = lists.list(worker);
-    let own = list.rank(staffing.placement.tenant(worker));
-    blocks_before_own(lists, policy, staffing, worker, &list, own);
-    first_wanting(policy, staffing, worker, &list, 0, own)
+    &tenants[..place]
 }
-
-// A worker blocks with the tenants before its own that want it.
-fn blocks_before_own<P: Policy>(
-    lists: &Lists,
-    policy: &P,
-    staffing: &Staffing,
-    worker: u8,
-    list: &Ranking<16>,
-    own: usize,
-)
-    requires list { listed list.now ≡ (market lists.now).list worker }
-    requires own { own ≡ rank (listed list.now) (place staffing.now.placement.places worker) }
-    ensures within { own ≤ length (listed list.now) }
-    ensures first { first_that (blocks (market lists.now) (P.Policy.chosen policy.now) (place staffing.now.placement.places) worker) ((market lists.now).list worker) ≡ first_that (wants (P.Policy.chosen policy.now) (place staffing.now.placement.places) worker) (drop 0 (take own (listed list.now))) }
-{}

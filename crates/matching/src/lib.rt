@@ -2,6 +2,7 @@
 #![tactic(auto)]
 
 pub mod checking;
+pub mod farm;
 pub mod placement;
 mod placements;
 pub mod settling;
@@ -10,8 +11,7 @@ mod staffings;
 pub mod stepping;
 mod wanting;
 
-pub use checking::check;
+pub use farm::{Farm, Situation};
 pub use placement::Placement;
-pub use settling::{Settled, settle};
+pub use settling::Settled;
 pub use staffing::Staffing;
-pub use stepping::{displacement, step, successor};

@@ -3,7 +3,7 @@ ghost use Rattle.std.specs.Prelude.{◌≡◌, ℕ, ◌<◌, not, ◌&&◌, ◌|
 ghost use Rattle.fleet.specs.Market.{staff as staff_of};
 ghost use Rattle.fleet.specs.Members.{members};
 ghost use Rattle.matching.specs.Entries.{place};
-ghost use Rattle.matching.specs.Staffs.{no_workers, staff_below};
+ghost use Rattle.matching.specs.Staffs.{no_workers};
 
 use crate::placement::Placement;
 use crate::staffing::Staffing;
@@ -14,8 +14,10 @@ impl Staffing {
     pub fn new(placement: Placement) -> Staffing
         ensures { result.placement ≡ placement }
     {
-        nobody_past_63(&placement);
-        let staffs = staffs_below(&placement, 64);
+        let mut staffs = [WorkerSet::empty(); 16];
+        for (worker, tenant) in placement.places.iter().enumerate() {
+            enter(&mut staffs, worker as u8, *tenant);
+        }
         Staffing { placement, staffs }
     }
 
@@ -23,7 +25,6 @@ impl Staffing {
     pub fn put(&mut self, worker: u8, tenant: u8)
         ensures { self.new.placement.places ≡ slice_set self.old.placement.places worker tenant }
     {
-        self.placement.has_no_more(worker, tenant);
         if worker < 64 {
             let staffs = self.reassigned(worker, tenant);
             let mut places = self.placement.places;
@@ -46,33 +47,14 @@ impl Staffing {
         staffs
     }
 
-    // The workers of a tenant.
+    // The workers of a tenant, nobody past 15.
     pub(crate) fn staff(&self, tenant: u8) -> WorkerSet
-        requires { tenant < 16 }
-        ensures { members result ≡ staff_of (place self.now.placement.places) tenant }
+        ensures { tenant < 16 → members result ≡ staff_of (place self.now.placement.places) tenant }
     {
-        self.staffs[tenant as usize]
+        let staff = self.staffs.get(tenant as usize).copied();
+        staff.unwrap_or(WorkerSet::empty())
     }
 }
-
-// The workers below a number of each of 16 tenants.
-fn staffs_below(placement: &Placement, workers: u8) -> [WorkerSet; 16]
-    ensures { (t w : ℕ) → t < 16 → members (slice_index_or result t no_workers) w ≡ staff_below workers (place placement.now.places) t w }
-{
-    let mut staffs = [WorkerSet::empty(); 16];
-    for w in 0..workers {
-        let tenant = placement.tenant(w);
-        if tenant < 16 {
-            staffs[tenant as usize] = staffs[tenant as usize].with(w);
-        }
-    }
-    staffs
-}
-
-// No tenant has workers past 63.
-fn nobody_past_63(placement: &Placement)
-    ensures { (t w : ℕ) → t < 16 → staff_below 64 (place placement.now.places) t w ≡ staff_of (place placement.now.places) t w }
-{}
 
 // Takes a worker from a tenant.
 fn leave(staffs: &mut [WorkerSet; 16], worker: u8, tenant: u8)

@@ -1,54 +1,43 @@
-// Which tenants want a worker.
-ghost use Rattle.std.specs.Prelude.{◌≡◌, ◌<◌, ◌≤◌, length, take, drop};
+// Which workers a tenant keeps, and whether it wants one.
+ghost use Rattle.std.specs.Prelude.{◌≡◌, ◌<◌};
+ghost use Rattle.std.specs.List.{find};
 ghost use Rattle.fleet.specs.Sets.{insert};
 ghost use Rattle.fleet.specs.Market.{staff};
 ghost use Rattle.fleet.specs.Members.{members};
-ghost use Rattle.fleet.specs.Rankings.{listed};
-ghost use Rattle.matching.specs.Entries.{place, first_that};
+ghost use Rattle.matching.specs.Farms.{placed, choices};
 ghost use Rattle.matching.specs.Stable.{wants as wants_at};
 
-use crate::staffing::Staffing;
-use fleet::{Ranking, WorkerSet};
+use crate::farm::Situation;
+use fleet::WorkerSet;
 use policy::Policy;
 
-// The tenant's workers and this one.
-pub(crate) fn staff_and(staffing: &Staffing, tenant: u8, worker: u8) -> WorkerSet
-    requires known { worker < 64 }
-    requires rented { tenant < 16 }
-    ensures { members result ≡ insert (staff (place staffing.now.placement.places) tenant) worker }
-{
-    staffing.staff(tenant).with(worker)
-}
-
-// Would the tenant choose the worker out of its own workers and this one?
-fn wants<P: Policy>(policy: &P, staffing: &Staffing, worker: u8, tenant: u8) -> bool
-    requires known { worker < 64 }
-    requires rented { tenant < 16 }
-    ensures { result ≡ wants_at (P.Policy.chosen policy.now) (place staffing.now.placement.places) worker tenant }
-{
-    let asked = staff_and(staffing, tenant, worker);
-    policy.choose(tenant, asked).contains(worker)
-}
-
-// Of the tenants at the places from one up to another of a list, the first that wants the worker.
-pub(crate) fn first_wanting<P: Policy>(
-    policy: &P,
-    staffing: &Staffing,
-    worker: u8,
-    list: &Ranking<16>,
-    from: usize,
-    to: usize,
-) -> Option<u8>
-    requires known { worker < 64 }
-    requires within { to ≤ length (listed list.now) }
-    ensures { result ≡ first_that (wants_at (P.Policy.chosen policy.now) (place staffing.now.placement.places) worker) (drop from (take to (listed list.now))) }
-{
-    for i in from..to {
-        if let Some(tenant) = list.get(i) {
-            if wants(policy, staffing, worker, tenant) {
-                return Some(tenant);
-            }
-        }
+// A policy keeps its laws on sets of the workers below 64, so only what it makes of these is asked.
+impl<P: Policy> Situation<'_, P> {
+    // Whom the tenant would choose out of its own workers and this one.
+    pub(crate) fn kept_with(&self, tenant: u8, worker: u8) -> WorkerSet
+        requires { worker < 64 }
+        ensures { members result ≡ choices P.chosen self.now tenant (insert (staff (placed self.now) tenant) worker) }
+    {
+        let asked = self.staffing.staff(tenant).with(worker);
+        self.farm.policy.choose(tenant, asked)
     }
-    None
+
+    // Would the tenant choose the worker out of its own workers and this one?
+    pub(crate) fn wants(&self, worker: u8, tenant: u8) -> bool
+        requires { worker < 64 }
+        ensures { result ≡ wants_at (choices P.chosen self.now) (placed self.now) worker tenant }
+    {
+        self.kept_with(tenant, worker).contains(worker)
+    }
+
+    // The first of these tenants that wants the worker.
+    pub(crate) fn first_wanting(&self, worker: u8, tenants: &[u8]) -> Option<u8>
+        requires { worker < 64 }
+        ensures { result ≡ find (wants_at (choices P.chosen self.now) (placed self.now) worker) tenants.now }
+    {
+        tenants
+            .iter()
+            .copied()
+            .find(|tenant| self.wants(worker, *tenant))
+    }
 }

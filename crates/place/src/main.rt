@@ -1,13 +1,12 @@
 // Reads a sheet from standard input and prints what it comes to.
 #![tactic(auto)]
 
-use report::{LONGEST, Outcome};
+use report::{LONGEST, Told, settled};
 use std::io;
 use std::io::Read;
 
 fn main(rt: HostRuntime) -> io::Result<()> {
     let mut bytes = Vec::new(rt.alloc());
     rt.stdin().take(LONGEST as u64 + 1).read_to_end(&mut bytes)?;
-    let outcome = Outcome::of(bytes.as_slice());
-    println!(rt; "{outcome}")
+    println!(rt; "{}", Told(settled(bytes.as_slice())))
 }

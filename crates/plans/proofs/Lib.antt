@@ -1,2 +1,2 @@
 -- Lemmas: the day of a sheet.
-mod Planned
+mod Day

@@ -5,7 +5,7 @@ use Rattle.matching.specs.Stable.{TenantBest}
 use Rattle.sheet.specs.Sheets.{SheetText}
 use Rattle.sheet.specs.Reading.{decode}
 use Rattle.sheet.specs.Says.{market_said, policy_said}
-use Rattle.plans.specs.Outcomes.{day_of}
+use Rattle.plans.specs.Plans.{day_of}
 
 -- the placement at the end is best for all tenants
 abbrev pub EndsBest : SheetText → Type 0

@@ -1,3 +1,3 @@
--- Definitions: what an input comes to, and where its plan ends.
-pub mod Outcomes
+-- Definitions: the plan of a sheet, and where it ends.
+pub mod Plans
 pub mod Laws

@@ -4,3 +4,5 @@ pub mod Turns
 pub mod Seating
 pub mod Bounds
 pub mod Naming
+pub mod Finding
+pub mod Gathering

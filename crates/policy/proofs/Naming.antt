@@ -1,9 +1,9 @@
--- The index of a set from a place on, and the workers that an entry names up to a place, one place at a time.
-use Rattle.std.proofs.Common.{◌≡◌, ℕ, ◌+◌, ◌-◌, ◌*◌, ◌/◌, ◌^◌, ◌<◌, ◌≤◌, Bool, true, false, cond, ◌&&◌, eqb, ltb, ◌⊎◌, List, length, get_or, drop, sym, ap, ◌∙◌, inl, inr, arith, length-drop, pow_mono}
+-- The index of a set up to a place, and the workers that an entry names up to a place, one place at a time.
+use Rattle.std.proofs.Common.{◌≡◌, ℕ, ◌+◌, ◌*◌, ◌/◌, ◌%◌, ◌^◌, ◌<◌, ◌≤◌, Bool, true, false, cond, ◌&&◌, eqb, ltb, ◌⊎◌, List, [], ◌∷◌, ◌++◌, length, get_or, take, sym, ap, ◌∙◌, inl, inr, arith, pow-suc, pow_mono}
 use mathlib.Core.Path.{fun_ext}
 use lib.Bits.{bit_and}
 use Rattle.std.proofs.lemmas.Nat.{and_mask}
-use Rattle.std.proofs.lemmas.List.{drop_more}
+use Rattle.std.proofs.lemmas.List.{take_more, length-take-le}
 use Rattle.std.proofs.lemmas.Bool.{cases_eq}
 use Rattle.std.proofs.lemmas.Bool.Decides.{nat_tests}
 use Rattle.fleet.specs.Sets.{Set, with_worker}
@@ -14,17 +14,27 @@ use Rattle.fleet.proofs.Ranks.{getD_rank}
 use Rattle.policy.specs.Tables.{index_of, named_by}
 use Rattle.policy.specs.Indices.{index_below}
 
--- the index from the place before on
-pub index_more : (ws : List ℕ) (Z : Set) (i : ℕ) → 0 < i → i ≤ length ws → index_of (drop (i - 1) ws) Z ≡ 2 * index_of (drop i ws) Z + cond (Z (get_or ws (i - 1) 0)) 1 0
-index_more ws Z i some l =
-    let back : i - 1 + 1 ≡ i = omega arith in
-    ap (λ (l : List ℕ). index_of l Z) (drop_more ws (i - 1) 0 (omega arith)) ∙ rw back (omega arith)
+pub index_small : (ws : List ℕ) (Z : Set) → length ws ≤ 8 → index_of ws Z < 256
+index_small ws Z few = let p : 2 ^ length ws ≤ 2 ^ 8 = pow_mono few in omega (arith, index_below ws Z)
 
-pub index_small : (ws : List ℕ) (Z : Set) (i : ℕ) → length ws ≤ 8 → index_of (drop i ws) Z < 256
-index_small ws Z i few =
-    let l : length (drop i ws) ≤ 8 = omega (arith, length-drop i ws) in
-    let p : 2 ^ length (drop i ws) ≤ 2 ^ 8 = pow_mono l in
-    omega (arith, index_below (drop i ws) Z)
+-- the index of one worker more
+index_push : (ws : List ℕ) (w : ℕ) (Z : Set) → index_of (ws ++ (w ∷ [])) Z ≡ index_of ws Z + cond (Z w) (2 ^ length ws) 0
+index_push [] w Z = grind arith
+index_push (x ∷ ws) w Z = let i = index_push ws w Z in let p = pow-suc 2 (length ws) in grind arith
+
+module _ (ws : List ℕ) (Z : Set) (i : ℕ) (few : length ws ≤ 8) (l : i < length ws) where
+  -- bit i fits a byte
+
+  pub bit_small : 2 ^ i ≤ 128
+  bit_small = let j : i ≤ 7 = omega arith in pow_mono j
+
+  pub bit_alone : (1 * 2 ^ i) % 18446744073709551616 ≡ 2 ^ i
+  bit_alone = let s = bit_small in grind arith
+
+  pub index_more : index_of (take (i + 1) ws) Z ≡ index_of (take i ws) Z + cond (Z (get_or ws i 0)) (2 ^ i) 0
+  index_more =
+      ap (λ (k : List ℕ). index_of k Z) (take_more ws i 0 l) ∙ index_push (take i ws) (get_or ws i 0) Z
+      ∙ ap (λ (n : ℕ). index_of (take i ws) Z + cond (Z (get_or ws i 0)) (2 ^ n) 0) (length-take-le i ws (omega arith))
 
 -- bit i, as a shift and a mask test it
 pub bit_test : (bits i : ℕ) → bit bits i ≡ eqb (bit_and (bits / 2 ^ i) 1) 1

@@ -1,11 +1,11 @@
 -- The walk with caps for classes, for a loop that counts those it takes, all and by class.
-use Rattle.std.proofs.Common.{◌≡◌, ℕ, ◌+◌, ◌<◌, ◌≤◌, Bool, true, false, ◌&&◌, ltb, ◌⊎◌, List, ◌∷◌, length, get_or, set, sym, ap, ◌∙◌, subst, ap₂, inl, inr, arith}
+use Rattle.std.proofs.Common.{◌≡◌, ℕ, ◌+◌, ◌<◌, Bool, true, false, ◌&&◌, ltb, ◌⊎◌, List, ◌∷◌, length, get_or, set, sym, ap, ◌∙◌, subst, ap₂, inl, inr, arith}
 use Rattle.std.proofs.lemmas.List.{length-set, get_or-set_same, get_or-set_other}
 use Rattle.std.proofs.lemmas.Bool.{and_from, cases_eq, cond-true, cond-false}
 use Rattle.std.proofs.lemmas.Bool.Decides.{nat_tests}
-use Rattle.fleet.specs.Sets.{Set, among, with_worker}
-use Rattle.policy.specs.Kinds.{of_class, has_seat, seated}
-use Rattle.policy.proofs.Turns.{Taken, walked, walked_all, walked_more, joins, passes}
+use Rattle.fleet.specs.Sets.{Set, with_worker}
+use Rattle.policy.specs.Kinds.{of_class, has_seat}
+use Rattle.policy.proofs.Turns.{Taken, walked, walked_more, joins, passes}
 
 -- one more of a class
 one_more : (class : ℕ → ℕ) (c w : ℕ) (T counts : List ℕ) → class w < length counts → get_or counts (class w) 0 ≡ of_class class (class w) T → get_or counts c 0 ≡ of_class class c T →
@@ -60,6 +60,3 @@ module _ (classes : List ℕ) (overall : ℕ) (caps : List ℕ) (Z : Set) (l : L
       eight = ap length g ∙ s.eight;
       counts = λ c k. ap (λ (b : List ℕ). get_or b c 0) g ∙ s.counts c k ∙ ap (of_class class c) (sym (walked_more room Z l i h ∙ cond-false _ _ _ z));
     }
-
-  pub seated_all : (i : ℕ) (A : Set) (n : ℕ) (by_class : List ℕ) → Seating i A n by_class → length l ≤ i → A ≡ seated classes overall caps l Z
-  seated_all i A n by_class s h = s.members.0 ∙ ap among (walked_all room Z l i h)

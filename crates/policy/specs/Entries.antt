@@ -1,20 +1,24 @@
 -- What a Table policy holds, and what making a table answers.
-use Rattle.std.specs.Prelude.{ℕ, ◌^◌, List, map, length, take, Some, None, Ok, Err, Option, Result}
+use Rattle.std.specs.Prelude.{ℕ, ◌^◌, List, length, take, Some, None, Ok, Err, Option, Result}
 use Rattle.fleet.specs.Rankings.{listed}
 use Rattle.policy.specs.Tables.{TableRule}
 use Rattle.policy.specs.Faults.{table_fault}
-use Rattle.policy.specs.Rosters.{held}
+use Rattle.policy.specs.Rosters.{rules}
 use Rattle.policy.specs.declared.fault.TableFault.{TableFault}
 use Rattle.policy.specs.declared.table.TableTenant.{TableTenant}
-use Rattle.policy.specs.declared.table.Table.{Table}
+use Rattle.policy.specs.declared.roster.Roster.{Roster}
 
 -- the workers of a tenant, and the entries for their sets
 abbrev pub table_rule : TableTenant → TableRule
 table_rule t = record { workers = listed t.workers; entries = take (2 ^ length (listed t.workers)) t.entries }
 
+-- the policy of such tenants, who have nothing in common
+abbrev pub Table : Type 0
+Table = Roster TableTenant (Unit {0})
+
 -- the tenants of the policy, by number
 abbrev pub tables : Table → List TableRule
-tables p = map table_rule (held p.tenants)
+tables = rules table_rule
 
 -- the workers and entries of a table that was made, else the fault
 abbrev pub new_answer : Result TableTenant TableFault → Result TableRule TableFault

@@ -42,7 +42,7 @@ of_class class c (w ∷ ws) = cond (class w == c) 1 0 + of_class class c ws
 
 -- fewer are taken than the overall cap, and fewer of the worker's class than the cap of that class
 abbrev pub has_seat : (ℕ → ℕ) → ℕ → (ℕ → ℕ) → List ℕ → ℕ → Bool
-has_seat class overall cap-of so_far w = nat_lt (length so_far) overall && nat_lt (of_class class (class w) so_far) (cap-of (class w))
+has_seat class overall cap_of so_far w = nat_lt (length so_far) overall && nat_lt (of_class class (class w) so_far) (cap_of (class w))
 
 -- who is seated on a walk down the list, by the workers' classes, the overall cap and the caps of the classes
 abbrev pub seated : List ℕ → ℕ → List ℕ → List ℕ → Choice

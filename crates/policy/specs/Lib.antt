@@ -15,7 +15,6 @@ pub mod Choose
 pub mod RanksLemmas
 pub mod Walks
 pub mod Tenants
-pub mod Held
 pub mod SeatsLemmas
 pub mod EntriesLemmas
 pub mod Indices

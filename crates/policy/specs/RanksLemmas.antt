@@ -10,7 +10,7 @@ use Rattle.policy.specs.Kinds.{ranked, walk, turn}
 use Rattle.policy.specs.Walks.{Orderly, walk_lawful, walk_count}
 
 -- fewer than the cap are taken
-abbrev pub below : ℕ → List ℕ → ℕ → Bool
+abbrev below : ℕ → List ℕ → ℕ → Bool
 below cap so_far w = nat_lt (length so_far) cap
 
 below_orderly : (cap : ℕ) → Orderly (below cap) (λ A B. length A ≤ length B)
@@ -41,7 +41,7 @@ walk_ranked cap Z (w ∷ ws) A (suc m) e v = go (Z w) refl (walk_ranked cap Z ws
         let stays : turn (below cap) Z A w ≡ A = grind (arith, nat_tests) in
         rw stays less
 
-pub ranked_walk : (cap : ℕ) (l : List ℕ) → (λ Z. among (walk (below cap) Z [] l)) ≡ ranked cap l
+ranked_walk : (cap : ℕ) (l : List ℕ) → (λ Z. among (walk (below cap) Z [] l)) ≡ ranked cap l
 ranked_walk cap l = fun_ext (λ Z. fun_ext (λ v. walk_ranked cap Z l [] cap (omega arith) v))
 
 pub ranked_lawful : (cap : ℕ) (l : List ℕ) → different l ≡ true → Lawful (ranked cap l)

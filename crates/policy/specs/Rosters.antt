@@ -1,12 +1,16 @@
 -- The tenants of a roster as a list, and what adding one answers and leaves.
-use Rattle.std.specs.Prelude.{ℕ, Bool, cond, List, [], ◌∷◌, ◌++◌, length, take, Ok, Err, Result, ◌==◌, nat_lt}
+use Rattle.std.specs.Prelude.{ℕ, Bool, cond, List, [], ◌∷◌, ◌++◌, map, length, take, Ok, Err, Result, ◌==◌, nat_lt}
 use Rattle.policy.specs.declared.roster.Roster.{Roster}
 use Rattle.policy.specs.declared.refusal.PolicyRefusal.{PolicyRefusal}
 use Rattle.policy.specs.declared.refusal.PolicyRefusal.TheVariants.{Cap, Class, Full}
 
 -- the tenants by number
-abbrev pub held : {T : Type 0} → Roster T → List T
+abbrev pub held : {T C : Type 0} → Roster T C → List T
 held r = take r.count r.tenants
+
+-- the rules of the tenants, by number
+abbrev pub rules : {T C R : Type 0} → (T → R) → Roster T C → List R
+rules rule r = map rule (held r)
 
 -- the refusals by number
 abbrev pub refusal : PolicyRefusal → ℕ

@@ -1,7 +1,8 @@
 -- A search upward finds the least, and the steps of such a search.
 use Rattle.std.specs.Prelude.{◌≡◌, ℕ, zero, suc, ◌+◌, ◌-◌, ◌<◌, ◌≤◌, Bool, true, false, cond, ◌⊎◌, Some, None, Option, ◌≢◌, refl}
-use Rattle.std.proofs.Common.{arith, add-one, sym, ap, subst, inl, inr}
+use Rattle.std.proofs.Common.{arith, add-one, sym, ap, ◌∙◌, subst, inl, inr}
 use Rattle.std.proofs.lemmas.Bool.{cases_eq}
+use Rattle.std.specs.List.{find, range_with_len}
 use Rattle.policy.specs.Laws.{SearchLeast}
 use Rattle.policy.specs.Search.{seek, seek_pair, paired, Least, LeastPair, Before}
 
@@ -54,6 +55,12 @@ seek_below n z p e = (subst (Least n p) (sym e) (seek_least n p)).0
 
 pub pair_below : (n z y : ℕ) (p : ℕ → ℕ → Bool) → Some (z, y) ≡ seek_pair n 0 n p → (z < n) × (y < n)
 pair_below n z y p e = let l = subst (LeastPair n p) (sym e) (seek_pair_least n p) in (l.0, l.1)
+
+-- the search of a range for the first number that passes
+pub seek_in_range : (p : ℕ → Bool) (k i : ℕ) → find p (range_with_len i k) ≡ seek k i p
+unfolding seek
+seek_in_range p zero i = refl
+seek_in_range p (suc k) i = ap (cond (p i) (Some i)) (seek_in_range p k (i + 1) ∙ ap (λ (m : ℕ). seek k m p) (add-one i))
 
 -- a number that passes ends the search, one that does not is passed over, and so to the end
 

@@ -24,9 +24,9 @@ by_class class k small (w ∷ ws) =
     let l = small w in
     grind (arith, nat_tests)
 
-module _ (class : ℕ → ℕ) (overall : ℕ) (cap-of : ℕ → ℕ) (k : ℕ) (small : (w : ℕ) → class w < k) where
+module _ (class : ℕ → ℕ) (overall : ℕ) (cap_of : ℕ → ℕ) (k : ℕ) (small : (w : ℕ) → class w < k) where
   abbrev room : List ℕ → ℕ → Bool
-  room = has_seat class overall cap-of
+  room = has_seat class overall cap_of
 
   -- B has the overall cap, or of each class at least as many as A
   abbrev Behind : List ℕ → List ℕ → Type 0
@@ -57,13 +57,13 @@ module _ (class : ℕ → ℕ) (overall : ℕ) (cap-of : ℕ → ℕ) (k : ℕ) 
 
   -- of each class at most the cap, and that many or those who were there unless all seats are taken
   abbrev Filled : List ℕ → List ℕ → Type 0
-  Filled A B = (length A ≤ overall) × ((c : ℕ) → of_class class c A ≤ min (cap-of c) (of_class class c B)) × ((overall ≤ length A) ⊎ ((c : ℕ) → min (cap-of c) (of_class class c B) ≤ of_class class c A))
+  Filled A B = (length A ≤ overall) × ((c : ℕ) → of_class class c A ≤ min (cap_of c) (of_class class c B)) × ((overall ≤ length A) ⊎ ((c : ℕ) → min (cap_of c) (of_class class c B) ≤ of_class class c A))
 
   filled_on : (A B : List ℕ) (Z : Set) → Filled A B → (w : ℕ) → Filled (turn room Z A w) (turn (λ _ _. true) Z B w)
   filled_on A B Z (few, low, full) w = (grind (arith, nat_tests), (λ c. let here = low c in grind (arith, nat_tests)), go full (cases_lt (length A) overall))
     where
-      go : (overall ≤ length A) ⊎ ((c : ℕ) → min (cap-of c) (of_class class c B) ≤ of_class class c A) → (length A < overall) ⊎ (overall ≤ length A) →
-          (overall ≤ length (turn room Z A w)) ⊎ ((c : ℕ) → min (cap-of c) (of_class class c (turn (λ _ _. true) Z B w)) ≤ of_class class c (turn room Z A w))
+      go : (overall ≤ length A) ⊎ ((c : ℕ) → min (cap_of c) (of_class class c B) ≤ of_class class c A) → (length A < overall) ⊎ (overall ≤ length A) →
+          (overall ≤ length (turn room Z A w)) ⊎ ((c : ℕ) → min (cap_of c) (of_class class c (turn (λ _ _. true) Z B w)) ≤ of_class class c (turn room Z A w))
       go f (inr l) = inl (grind arith)
       go (inl l') (inl l) = absurd (omega arith)
       go (inr f) (inl l) = inr (λ c. let here = f c in grind (arith, nat_tests))
@@ -77,14 +77,14 @@ module _ (class : ℕ → ℕ) (overall : ℕ) (cap-of : ℕ → ℕ) (k : ℕ) 
   offered c Z [] B = omega arith
   offered c Z (w ∷ ws) B = offered c Z ws (turn (λ _ _. true) Z B w) ∙ grind (arith, nat_tests)
 
-  length_seated : (Z : Set) (l : List ℕ) → length (walk room Z [] l) ≡ min overall (sum_below k (λ c. min (cap-of c) (of_class class c (filter Z l))))
+  length_seated : (Z : Set) (l : List ℕ) → length (walk room Z [] l) ≡ min overall (sum_below k (λ c. min (cap_of c) (of_class class c (filter Z l))))
   length_seated Z l = go (filled Z l [] [] (omega arith, (λ c. omega arith), inr (λ c. omega arith)))
     where
       A : List ℕ
       A = walk room Z [] l
 
       seats : ℕ → ℕ
-      seats c = min (cap-of c) (of_class class c (filter Z l))
+      seats c = min (cap_of c) (of_class class c (filter Z l))
 
       go : Filled A (walk (λ _ _. true) Z [] l) → length A ≡ min overall (sum_below k seats)
       go (few, low, inl full) = omega (arith, by_class class k small A, sum_le k (λ c. of_class class c A) seats (λ c l'. omega (arith, low c, offered c Z l [])))

@@ -22,8 +22,7 @@ impl<A: Policy, B: Policy> Policy for Pair<A, B> {
     ghost lawful = { λ p. joined_keeps _ _ _ _ (A.Policy.lawful p.first) (B.Policy.lawful p.second) };
 
     fn count(&self) -> u8 {
-        let sum = self.first.count() + self.second.count();
-        if sum < 16 { sum } else { 16 }
+        (self.first.count() + self.second.count()).min(16)
     }
 
     fn choose(&self, tenant: u8, of: WorkerSet) -> WorkerSet {

@@ -1,14 +1,14 @@
 // Why a table of choices is refused.
 
-/// A law that two entries of a table can break.
+/// A law that two entries of a table can break, by the number of its fault.
 #[derive(Clone, Copy, PartialEq, Eq, Debug)]
 pub enum TableLaw {
     /// Who is chosen out of many is chosen out of fewer.
-    Substitutability,
+    Substitutability = 21,
     /// No fewer are chosen out of more.
-    Monotonicity,
+    Monotonicity = 22,
     /// Leaving out those who are not chosen changes nothing.
-    Consistency,
+    Consistency = 23,
 }
 
 /// Why a table is refused.

@@ -1,6 +1,6 @@
 // What the laws give to whoever asks a policy, whichever policy it is.
 ghost use Rattle.std.specs.Prelude.{◌≡◌, ◌+◌, ◌≤◌};
-ghost use Rattle.fleet.specs.Sets.{Within, union, size};
+ghost use Rattle.fleet.specs.Sets.{Within, union, minus, size};
 ghost use Rattle.fleet.specs.Members.{members};
 ghost use Rattle.policy.specs.Laws.{both, Idempotence, PathIndependence, Consistency};
 
@@ -40,7 +40,9 @@ pub fn staying<P: Policy>(policy: &P, tenant: u8, few: WorkerSet, others: Worker
     ensures alone { Within (members result) (P.Policy.chosen policy.now tenant (members few)) }
 {
     let together = policy.choose(tenant, few.union(others));
-    those_of_few(policy, tenant, few, others, together)
+    let stay = together.minus(others.minus(few));
+    few_stay(policy, tenant, few, others, stay);
+    stay
 }
 
 /// How many more the tenant chooses when others come; it never chooses fewer.
@@ -54,22 +56,8 @@ pub fn gain<P: Policy>(policy: &P, tenant: u8, few: WorkerSet, others: WorkerSet
     together.len() - alone.len()
 }
 
-/// The workers of the few among those chosen out of both sets together.
-fn those_of_few<P: Policy>(
-    policy: &P,
-    tenant: u8,
-    few: WorkerSet,
-    others: WorkerSet,
-    together: WorkerSet,
-) -> WorkerSet
-    requires { members together ≡ P.Policy.chosen policy.now tenant (union (members few) (members others)) }
-    ensures same { members result ≡ both (P.Policy.chosen policy.now tenant (union (members few) (members others))) (members few) }
-    ensures alone { Within (members result) (P.Policy.chosen policy.now tenant (members few)) }
-{
-    together.minus(others.minus(few))
-}
-
-// The laws themselves. These functions do nothing: what they ensure is what holds.
+// The laws themselves. These functions do nothing: what they ensure is what holds. Kept as functions,
+// so that the bodies above are proved from contracts alone.
 
 /// Choosing out of the chosen changes nothing.
 fn again_is_once<P: Policy>(policy: &P, tenant: u8, of: WorkerSet)
@@ -81,6 +69,14 @@ fn again_is_once<P: Policy>(policy: &P, tenant: u8, of: WorkerSet)
 fn parts_are_whole<P: Policy>(policy: &P, tenant: u8, first: WorkerSet, second: WorkerSet)
     ensures same { P.Policy.chosen policy.now tenant (union (P.Policy.chosen policy.now tenant (members first)) (members second)) ≡ P.Policy.chosen policy.now tenant (union (members first) (members second)) }
     ensures law { PathIndependence }
+{}
+
+/// Those chosen out of both sets who are not of the others alone are of the few, and are chosen out
+/// of the few alone.
+fn few_stay<P: Policy>(policy: &P, tenant: u8, few: WorkerSet, others: WorkerSet, stay: WorkerSet)
+    requires { members stay ≡ minus (P.Policy.chosen policy.now tenant (union (members few) (members others))) (minus (members others) (members few)) }
+    ensures same { members stay ≡ both (P.Policy.chosen policy.now tenant (union (members few) (members others))) (members few) }
+    ensures alone { Within (members stay) (P.Policy.chosen policy.now tenant (members few)) }
 {}
 
 /// No fewer are chosen when others come.

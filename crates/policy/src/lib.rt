@@ -13,22 +13,25 @@ pub mod laws;
 pub mod ranked;
 mod ranked_policy;
 pub mod refusal;
-mod roster;
+pub mod roster;
 mod rosters;
 pub mod seated;
 mod seated_policy;
 pub mod table;
 mod table_policy;
 mod table_search;
+pub mod tenant;
 
 pub use combined::{Pair, Quarantine};
 pub use fault::{TableFault, TableLaw};
 use fleet::WorkerSet;
 pub use ranked::{Ranked, RankedTenant};
 pub use refusal::PolicyRefusal;
-pub use seated::{Seated, SeatedTenant};
+pub use roster::Roster;
+pub use seated::{Classes, Seated, SeatedTenant};
 pub use table::{Table, TableTenant};
 pub use table_search::workers_of;
+pub use tenant::Tenant;
 
 /// What each tenant chooses out of a set of workers.
 pub trait Policy {

@@ -14,7 +14,4 @@ pub struct RankedTenant {
 
 /// The policy of up to sixteen tenants, each of which chooses the first so many workers of its list
 /// that are in the set.
-#[derive(Clone, Copy)]
-pub struct Ranked {
-    pub(crate) tenants: Roster<RankedTenant>,
-}
+pub type Ranked = Roster<RankedTenant>;

@@ -15,12 +15,14 @@ pub struct SeatedTenant {
     ghost each: { (c : ℕ) → slice_index caps c ≤ 64 },
 }
 
-/// The policy of up to sixteen tenants, each of which walks down its list and takes a worker of the
-/// set if it has fewer than its overall cap, and fewer of the worker's class than the class's cap.
+/// The classes of the workers, by worker number.
 #[derive(Clone, Copy)]
-pub struct Seated {
+pub struct Classes {
     pub(crate) classes: [u8; 64],
-    pub(crate) tenants: Roster<SeatedTenant>,
     ghost workers: { length classes ≡ 64 },
     ghost known: { (w : ℕ) → slice_index classes w < 8 },
 }
+
+/// The policy of up to sixteen tenants, each of which walks down its list and takes a worker of the
+/// set if it has fewer than its overall cap, and fewer of the worker's class than the class's cap.
+pub type Seated = Roster<SeatedTenant, Classes>;

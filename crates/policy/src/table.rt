@@ -6,6 +6,7 @@ ghost use Rattle.policy.specs.Faults.{table_fault};
 use crate::roster::Roster;
 use fleet::Ranking;
 
+// Kept: room for the entries of eight workers, and no length beside it, since the workers tell how many entries there are.
 /// A tenant's few workers, and for each set of them the chosen ones. Bit i of an entry's index says
 /// that the i-th worker is in the set, and bit i of the entry that it is chosen.
 #[derive(Clone, Copy)]
@@ -18,7 +19,4 @@ pub struct TableTenant {
 }
 
 /// The policy of up to sixteen tenants, each of which chooses as its table says.
-#[derive(Clone, Copy)]
-pub struct Table {
-    pub(crate) tenants: Roster<TableTenant>,
-}
+pub type Table = Roster<TableTenant>;

@@ -1,12 +1,10 @@
-// How a table is made, what it holds, and what its tenants choose.
+// How a table is made and grows, and what its tenants choose.
 ghost use Rattle.std.specs.Prelude.{◌≡◌, ℕ, ◌<◌, ◌≤◌, true, [], length, take};
-ghost use Rattle.std.specs.List.{slice_get};
-ghost use Rattle.std.specs.Option.{option_map};
 ghost use Rattle.fleet.specs.Sets.{among};
 ghost use Rattle.fleet.specs.Market.{different};
 ghost use Rattle.fleet.specs.Members.{members};
 ghost use Rattle.fleet.specs.Rankings.{listed};
-ghost use Rattle.policy.specs.Tables.{index_of, named_by, table_choice, table_policy, TableRule};
+ghost use Rattle.policy.specs.Tables.{index_of, named_by, table_choice, TableRule};
 ghost use Rattle.policy.specs.Faults.{table_fault as defined_table_fault};
 ghost use Rattle.policy.specs.Rosters.{push_answer, adding, added};
 ghost use Rattle.policy.specs.Laws.{SearchLeast};
@@ -14,14 +12,13 @@ ghost use Rattle.policy.specs.Entries.{table_rule, tables, new_answer, making};
 ghost use Rattle.std.proofs.Common.{arith};
 ghost use Rattle.policy.specs.EntriesLemmas.{table_lawful};
 ghost use Rattle.policy.specs.Faultless.{faultless};
-ghost use Rattle.policy.specs.Tenants.{roster_keeps};
 
-use crate::Policy;
 use crate::fault::TableFault;
 use crate::refusal::PolicyRefusal;
 use crate::roster::Roster;
 use crate::table::{Table, TableTenant};
 use crate::table_search::entries_fault;
+use crate::tenant::Tenant;
 use fleet::{Ranking, WorkerSet};
 
 /// The index of the set: bit i says that the i-th worker is in it.
@@ -30,8 +27,10 @@ fn index_of(workers: &[u8], of: WorkerSet) -> usize
     ensures { result ≡ index_of workers.now (members of) }
 {
     let mut index = 0;
-    for place in (0..workers.len()).rev() {
-        index = 2 * index + of.contains(workers[place]) as usize;
+    for (place, worker) in workers.iter().enumerate() {
+        if of.contains(*worker) {
+            index += 1 << place;
+        }
     }
     index
 }
@@ -42,9 +41,9 @@ fn named(workers: &[u8], bits: u8) -> WorkerSet
     ensures { members result ≡ named_by workers.now bits }
 {
     let mut chosen = WorkerSet::empty();
-    for place in 0..workers.len() {
+    for (place, worker) in workers.iter().enumerate() {
         if (bits >> place) & 1 == 1 {
-            chosen = chosen.with(workers[place]);
+            chosen = chosen.with(*worker);
         }
     }
     chosen
@@ -56,7 +55,7 @@ fn padded(entries: &[u8]) -> [u8; 256]
     ensures { take (length entries.now) result ≡ entries.now }
 {
     let mut all = [0; 256];
-    all[0..entries.len()].copy_from_slice(entries);
+    all[..entries.len()].copy_from_slice(entries);
     all
 }
 
@@ -74,11 +73,30 @@ fn table_fault(workers: &Ranking<64>, entries: &[u8]) -> Option<TableFault>
     entries_fault(entries)
 }
 
-/// Stands in the places where there is no tenant yet.
-fn no_tenant() -> TableTenant {
-    TableTenant {
-        workers: Ranking::empty(),
-        entries: [0; 256],
+impl Tenant for TableTenant {
+    type Common = ();
+
+    ghost Rule = { TableRule };
+
+    ghost rule = { table_rule };
+
+    ghost choice = { λ _ r. table_choice r.workers r.entries };
+
+    ghost lawful = { λ _ t.
+        let f = faultless (table_rule t).workers (table_rule t).entries t.sound in
+        table_lawful (table_rule t).workers (table_rule t).entries (omega (arith, t.few)) t.workers.apart f.lawful };
+
+    fn blank() -> TableTenant {
+        TableTenant {
+            workers: Ranking::empty(),
+            entries: [0; 256],
+        }
+    }
+
+    fn choose(&self, _common: &(), of: WorkerSet) -> WorkerSet {
+        let workers = self.workers.as_slice();
+        let index = index_of(workers, of);
+        named(workers, self.entries[index])
     }
 }
 
@@ -110,17 +128,7 @@ impl TableTenant {
     pub fn entries(&self) -> &[u8]
         ensures { result.now ≡ (table_rule self.now).entries }
     {
-        let all = &self.entries[..];
-        &all[0..1 << self.workers.len()]
-    }
-
-    /// The workers that the table chooses out of the set.
-    fn choose(&self, of: WorkerSet) -> WorkerSet
-        ensures { members result ≡ table_choice (table_rule self.now).workers (table_rule self.now).entries (members of) }
-    {
-        let workers = self.workers.as_slice();
-        let index = index_of(workers, of);
-        named(workers, self.entries[index])
+        &self.entries[..1 << self.workers.len()]
     }
 }
 
@@ -129,9 +137,7 @@ impl Table {
     pub fn empty() -> Table
         ensures { tables result ≡ [] }
     {
-        Table {
-            tenants: Roster::empty(no_tenant()),
-        }
+        Roster::of_nobody(())
     }
 
     /// Adds a tenant; a 17th is refused, and nothing changes then.
@@ -140,60 +146,5 @@ impl Table {
         ensures after { tables self.new ≡ added true (tables self.old) (table_rule tenant) }
     {
         self.add(tenant)
-    }
-
-    /// The tenant of this number.
-    pub fn tenant(&self, number: u8) -> Option<&TableTenant>
-        ensures { option_map (λ t. table_rule t.now) result ≡ slice_get (tables self.now) number }
-    {
-        self.find(number)
-    }
-
-    fn len(&self) -> u8
-        ensures { result ≡ length (tables self.now) }
-    {
-        self.tenants.len()
-    }
-
-    fn find(&self, number: u8) -> Option<&TableTenant>
-        ensures { option_map (λ t. table_rule t.now) result ≡ slice_get (tables self.now) number }
-    {
-        self.tenants.get(number)
-    }
-
-    fn add(&mut self, tenant: TableTenant) -> Result<(), PolicyRefusal>
-        ensures answer { push_answer result ≡ adding true (tables self.old) }
-        ensures after { tables self.new ≡ added true (tables self.old) (table_rule tenant) }
-    {
-        self.tenants.push(tenant)
-    }
-
-    fn picks(&self, number: u8, of: WorkerSet) -> WorkerSet
-        ensures { members result ≡ table_policy (tables self.now) number (members of) }
-    {
-        match self.find(number) {
-            Some(found) => found.choose(of),
-            None => WorkerSet::empty(),
-        }
-    }
-}
-
-impl Policy for Table {
-    ghost tenants = { λ p. length (tables p) };
-
-    ghost chosen = { λ p. table_policy (tables p) };
-
-    ghost lawful = { λ p.
-        roster_keeps table_rule (λ (r : TableRule). table_choice r.workers r.entries)
-        (λ t. let f = faultless (table_rule t).workers (table_rule t).entries t.sound in
-        table_lawful (table_rule t).workers (table_rule t).entries (omega (arith, t.few)) t.workers.apart f.lawful)
-        p.tenants };
-
-    fn count(&self) -> u8 {
-        self.len()
-    }
-
-    fn choose(&self, tenant: u8, of: WorkerSet) -> WorkerSet {
-        self.picks(tenant, of)
     }
 }

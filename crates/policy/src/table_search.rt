@@ -6,7 +6,7 @@ ghost use Rattle.policy.specs.Faults.{breaks, law_fault as defined_law_fault, en
 
 use crate::fault::{TableFault, TableLaw};
 
-// The workers and entries of a table over 0 to 8 workers, counted together.
+// The nine lengths that a table can have stand here once: the workers and entries of a table over 0 to 8 workers, counted together.
 const LENGTHS: [u16; 9] = [1, 3, 6, 11, 20, 37, 70, 135, 264];
 
 /// The workers and entries of a table over so many workers, counted together.
@@ -17,16 +17,12 @@ fn length_of(workers: u8) -> u16
     LENGTHS[workers as usize]
 }
 
+// Kept here and in `first_outside`: numbers are searched, since the number is what is looked for.
 /// How many workers a table has whose workers and entries are so many together.
 pub fn workers_of(total: u16) -> Option<u8>
     ensures { result ≡ seek 9 0 (λ n. nat_eq (table_length n) total) }
 {
-    for workers in 0..9 {
-        if length_of(workers) == total {
-            return Some(workers);
-        }
-    }
-    None
+    (0..9).find(|&workers| length_of(workers) == total)
 }
 
 /// Is every bit of the one a bit of the other?
@@ -57,14 +53,10 @@ fn is_broken(law: TableLaw, entries: &[u8], whole: usize, part: usize) -> bool
 fn first_outside(entries: &[u8]) -> Option<usize>
     ensures { result ≡ seek (length entries.now) 0 (outside entries.now) }
 {
-    for index in 0..entries.len() {
-        if !is_within(entries[index] as usize, index) {
-            return Some(index);
-        }
-    }
-    None
+    (0..entries.len()).find(|&index| !is_within(entries[index] as usize, index))
 }
 
+// Kept: two loops, left by the label at the first pair, as the least set comes first and then its least part.
 /// The least set, and then its least part, whose entries break the law.
 fn first_broken(law: TableLaw, entries: &[u8]) -> Option<(usize, usize)>
     ensures { result ≡ seek_pair (length entries.now) 0 (length entries.now) (breaks law entries.now) }
@@ -87,29 +79,23 @@ fn law_fault(law: TableLaw, entries: &[u8]) -> Option<TableFault>
     requires { length entries.now ≤ 256 }
     ensures { result ≡ defined_law_fault law (length entries.now) entries.now None }
 {
-    match first_broken(law, entries) {
-        Some((whole, part)) => Some(TableFault::Broken {
-            law,
-            whole: whole as u8,
-            part: part as u8,
-        }),
-        None => None,
-    }
+    let (whole, part) = first_broken(law, entries)?;
+    Some(TableFault::Broken {
+        law,
+        whole: whole as u8,
+        part: part as u8,
+    })
 }
 
+// The laws stand one by one, in the order in which they are looked at.
 /// The first fault of the entries.
 pub(crate) fn entries_fault(entries: &[u8]) -> Option<TableFault>
     requires { length entries.now ≤ 256 }
     ensures { result ≡ defined_entries_fault (length entries.now) entries.now }
 {
-    if let Some(index) = first_outside(entries) {
-        return Some(TableFault::Outside { index: index as u8 });
-    }
-    if let Some(fault) = law_fault(TableLaw::Substitutability, entries) {
-        return Some(fault);
-    }
-    if let Some(fault) = law_fault(TableLaw::Monotonicity, entries) {
-        return Some(fault);
-    }
-    law_fault(TableLaw::Consistency, entries)
+    first_outside(entries)
+        .map(|index| TableFault::Outside { index: index as u8 })
+        .or_else(|| law_fault(TableLaw::Substitutability, entries))
+        .or_else(|| law_fault(TableLaw::Monotonicity, entries))
+        .or_else(|| law_fault(TableLaw::Consistency, entries))
 }

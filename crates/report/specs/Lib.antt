@@ -1,2 +1,3 @@
--- Definitions: what an input comes to.
-pub mod Outcomes
+-- Definitions: what an input comes to, and how a sheet settles.
+pub mod Inputs
+pub mod Settlements

@@ -7,7 +7,7 @@ use Rattle.fleet.specs.Market.{Market, Placement}
 use Rattle.fleet.specs.declared.worker_set.WorkerSet.{WorkerSet}
 use Rattle.fleet.proofs.First.{SomeInj, Some≢None}
 use Rattle.policy.specs.Choice.{Policy}
-use Rattle.matching.specs.Entries.{first_that}
+use Rattle.std.specs.List.{find}
 use Rattle.matching.specs.Stepping.{candidate, step, successor}
 use Rattle.fleet.specs.declared.Move.{Move}
 use Rattle.rotation.specs.Rotation.{target}
@@ -79,4 +79,4 @@ module _ (m : Market) (C : Policy) (x : Placement) (w : ℕ) where
   rotation_past e = walk_missing (sym (walk_none m C x w 63 w nobody (rw (none, successor))))
     where
       none : step m C x w ≡ None
-      none = ap (first_that (candidate m C x w)) e
+      none = ap (find (candidate m C x w)) e

@@ -1,10 +1,9 @@
 -- What is noted of one worker more is right, and tells its successor and its step.
-use Rattle.std.proofs.Common.{◌≡◌, ℕ, ◌<◌, true, ltb, List, get_or, set, is_some, Some, None, Option, sym, refl, ap, ◌∙◌, ap₂, inl, inr, arith}
+use Rattle.std.proofs.Common.{◌≡◌, ℕ, ◌<◌, true, List, get_or, is_some, Some, None, Option, sym, refl, ap, ◌∙◌, inl, inr, arith}
 use Rattle.std.specs.Option.{option_map}
-use Rattle.std.proofs.lemmas.List.{get_or-set_same, get_or-set_other}
-use Rattle.std.proofs.lemmas.Bool.{cases_eq, cases_lt, lt-ltb, le-ltb, cond-true, cond-false, false≢true, or_left, or_right, and_from, eq-eqb}
+use Rattle.std.proofs.lemmas.Bool.{cases_eq, lt-ltb, false≢true, or_right, and_from, eq-eqb}
 use Rattle.std.proofs.lemmas.Bool.Decides.{nat_tests}
-use Rattle.fleet.specs.Sets.{Set, Within, nobody, with_worker, lowest}
+use Rattle.fleet.specs.Sets.{Set, Within, with_worker, lowest}
 use Rattle.fleet.specs.Market.{Market, Placement}
 use Rattle.fleet.specs.Members.{members}
 use Rattle.fleet.specs.declared.worker_set.WorkerSet.{WorkerSet}
@@ -12,16 +11,12 @@ use Rattle.fleet.proofs.Sizes.{same_at}
 use Rattle.fleet.proofs.First.{SomeInj, Some≢None, lowest_some}
 use Rattle.policy.specs.Choice.{Policy}
 use Rattle.matching.specs.Stepping.{step, put_out, successor, displacement}
-use Rattle.rotation.specs.declared.known.Known.{Known}
 use Rattle.rotation.specs.Rotation.{target}
-use Rattle.rotation.specs.Walking.{noted, note_of, Knows, Displacing}
+use Rattle.rotation.specs.Walking.{noted, Displacing}
 use Rattle.rotation.proofs.Steps.{target_is}
 
 -- one worker more is seen
 module _ (a b : WorkerSet) (w : ℕ) where
-  pub seen_more : members b ≡ with_worker (members a) w → Within (members a) (members b)
-  seen_more e v h = same_at e v ∙ or_left (members a v) _ h
-
   pub seen_here : w < 64 → members b ≡ with_worker (members a) w → members b w ≡ true
   seen_here l e = same_at e w ∙ or_right (members a w) _ (and_from _ _ (eq-eqb w w refl) (lt-ltb w 64 l))
 
@@ -54,46 +49,14 @@ module _ (m : Market) (C : Policy) (x : Placement) where
       at None h = rw (h, displacement, successor)
       at (Some s) h = rw (h, displacement, successor) (put s (lowest 64 (put_out C x s w)))
 
-  -- one worker more
-  pub learned : (k l : Known) (w t n : ℕ) → w < 64 → Knows m C x k → members l.seen ≡ with_worker (members k.seen) w →
-      l.to ≡ set k.to w t → l.next ≡ set k.next w n → noted t n ≡ displacement m C x w → Knows m C x l
-  learned k l w t n small knows seen to next here v h =
-      let now : note_of l v ≡ noted (get_or (set k.to w t) v 0) (get_or (set k.next w n) v 0) =
-      ap₂ (λ (a b : List ℕ). noted (get_or a v 0) (get_or b v 0)) to next in
-      elim (cases_eq v w) [
-        | inl q ↦ now ∙
-            rw q (ap₂ noted (get_or-set_same k.to w t 0 (omega (arith, k.tenants))) (get_or-set_same k.next w n 0 (omega (arith, k.successors))) ∙ here)
-        | inr ne ↦
-            (let s = same_at seen v in
-            now ∙ ap₂ noted (get_or-set_other k.to w v t 0 ne) (get_or-set_other k.next w v n 0 ne) ∙ knows v (grind (arith, nat_tests)))
-      ]
-
-  pub noted_some : (w t v : ℕ) → displacement m C x w ≡ Some (t, v) → noted t v ≡ displacement m C x w
-  noted_some w t v e = let (a, b, l) = displacement_some w t v e in cond-true (ltb v 64) (Some (t, v)) None (lt-ltb v 64 l) ∙ sym e
-
-  -- what is noted of a worker that puts one out has the tenant that it steps to
-  pub noted_target : (k : Known) → Knows m C x k → (A : Set) → Displacing m C x k A → (v : ℕ) → A v ≡ true → get_or k.to v 0 ≡ target m C x v
-  noted_target k knows A displacing v h = elim (cases_lt (get_or k.next v 0) 64) [
-    | inl q ↦
-        (let e = sym (knows v (displacing v h).0) ∙ cond-true (ltb (get_or k.next v 0) 64) (Some (get_or k.to v 0, get_or k.next v 0)) None (lt-ltb _ _ q) in
-        sym (target_is m C x v (get_or k.to v 0) (displacement_some v (get_or k.to v 0) (get_or k.next v 0) e).0))
-    | inr q ↦
-        (let e = sym (knows v (displacing v h).0) ∙ cond-false (ltb (get_or k.next v 0) 64) (Some (get_or k.to v 0, get_or k.next v 0)) None (le-ltb _ _ q) in
-        absurd (false≢true (sym (ap is_some e) ∙ (displacing v h).1)))
-  ]
-
   some_since : (o : Option (ℕ × ℕ)) (u : ℕ) → option_map (λ p. p.1) o ≡ Some u → is_some o ≡ true
   some_since None u e = absurd (Some≢None (sym e))
   some_since (Some p) u e = refl
 
-  -- nobody is in no set
-  pub displacing_none : (k : Known) (A : Set) → A ≡ nobody → Displacing m C x k A
-  displacing_none k A e v h = absurd (false≢true (sym (same_at e v) ∙ h))
-
   -- a worker more that has a successor
-  pub displacing_more : (k l : Known) (A B : Set) (v u : ℕ) → Displacing m C x k A → Within (members k.seen) (members l.seen) →
-      members l.seen v ≡ true → successor m C x v ≡ Some u → B ≡ with_worker A v → Displacing m C x l B
-  displacing_more k l A B v u before more here e is y h = elim (cases_eq y v) [
+  pub displacing_more : (old new A B : Set) (v u : ℕ) → Displacing m C x old A → Within old new →
+      new v ≡ true → successor m C x v ≡ Some u → B ≡ with_worker A v → Displacing m C x new B
+  displacing_more old new A B v u before more here e is y h = elim (cases_eq y v) [
     | inl q ↦ rw q (here, some_since (displacement m C x v) u (displacement_successor v ∙ e))
     | inr n ↦
         (let i = same_at is y in
@@ -101,6 +64,19 @@ module _ (m : Market) (C : Policy) (x : Placement) where
         (more y a, b))
   ]
 
-  -- where nobody was seen nothing wrong is noted
-  pub knows_nothing : (k : Known) → members k.seen ≡ nobody → Knows m C x k
-  knows_nothing k e v h = absurd (false≢true (sym (same_at e v) ∙ h))
+  -- what is noted of a worker that puts one out has the tenant that it steps to
+  pub noted_target : (to : List ℕ) (next : List (Option ℕ)) (v : ℕ) → noted to next v ≡ displacement m C x v → is_some (displacement m C x v) ≡ true →
+      get_or to v 0 ≡ target m C x v
+  noted_target to next v right some = at (get_or next v None) refl
+    where
+      at : (o : Option ℕ) → get_or next v None ≡ o → get_or to v 0 ≡ target m C x v
+      at None h = absurd (false≢true (ap is_some (sym (ap (option_map (λ (u : ℕ). (get_or to v 0, u))) h) ∙ right) ∙ some))
+      at (Some u) h = sym (target_is m C x v (get_or to v 0) (displacement_some v (get_or to v 0) u (sym right ∙ ap (option_map (λ (z : ℕ). (get_or to v 0, z))) h)).0)
+
+  -- and the worker that it puts out
+  pub noted_successor : (to : List ℕ) (next : List (Option ℕ)) (v : ℕ) → noted to next v ≡ displacement m C x v → get_or next v None ≡ successor m C x v
+  noted_successor to next v right = sym (again (get_or next v None)) ∙ ap (option_map (λ (p : ℕ × ℕ). p.1)) right ∙ displacement_successor v
+    where
+      again : (o : Option ℕ) → option_map (λ (p : ℕ × ℕ). p.1) (option_map (λ (u : ℕ). (get_or to v 0, u)) o) ≡ o
+      again None = refl
+      again (Some u) = refl

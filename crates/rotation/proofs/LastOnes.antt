@@ -1,5 +1,5 @@
 -- The lowest worker on a rotation, one worker more; where none is left the placement is best for the tenants.
-use Rattle.std.proofs.Common.{◌≡◌, ℕ, ◌+◌, false, is_some, Some, None, Option, sym, refl, ap, inl, inr, add-one}
+use Rattle.std.proofs.Common.{◌≡◌, ℕ, ◌+◌, false, is_some, Some, None, Option, ◌↔◌, sym, refl, ap, ◌∙◌, inl, inr, add-one}
 use Rattle.std.proofs.lemmas.Bool.{cases_lt, true≢false}
 use Rattle.fleet.specs.Sets.{Set, lowest}
 use Rattle.fleet.specs.Market.{Market, Placement}
@@ -33,3 +33,8 @@ module _ {m : Market} {C : Policy} (given : Given m C) {x : Placement} (st : Sta
 
   pub left_none : TenantBest m C x → lowest m.workers (on_rotation m C x) ≡ None
   left_none best = lowest_none m.workers (on_rotation m C x) (λ w l. ap is_some (off_missing m C x w (best_none given st best w)))
+
+-- at a stable placement there is no lowest worker on a rotation exactly where the placement is best for the tenants
+pub lowest_best : {m : Market} {C : Policy} → Given m C → (x : Placement) (found : Option ℕ) → found ≡ lowest m.workers (on_rotation m C x) → Stable m C x →
+    (found ≡ None) ↔ TenantBest m C x
+lowest_best given x found e st = (λ h. none_left given st (sym e ∙ h), λ best. e ∙ left_none given st best)

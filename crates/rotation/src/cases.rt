@@ -7,11 +7,5 @@ pub fn worked_cases() -> usize
     ensures count { result ≡ length worked }
     ensures hold { CasesHold }
 {
-    cases_hold();
     8
 }
-
-// The worked cases hold, by computing them.
-fn cases_hold()
-    ensures { CasesHold }
-{}

@@ -2,11 +2,11 @@
 #![tactic(auto)]
 
 pub mod cases;
-mod knowing;
-mod known;
 pub mod move_list;
 mod move_lists;
 pub mod rotating;
+mod walker;
+mod walking;
 
 pub use cases::worked_cases;
 pub use move_list::MoveList;

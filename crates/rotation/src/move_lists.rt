@@ -2,7 +2,7 @@
 ghost use Rattle.std.specs.Prelude.{◌≡◌, ◌+◌, ◌<◌, ◌≤◌, [], ◌∷◌, ◌++◌, length, take, slice_set};
 ghost use Rattle.fleet.specs.Members.{members};
 ghost use Rattle.matching.specs.Entries.{place};
-ghost use Rattle.rotation.specs.Moves.{carried, moved, turned, reversed};
+ghost use Rattle.rotation.specs.Moves.{carried, only_if, move_from, moved, turned, reversed};
 ghost use Rattle.rotation.specs.Listing.{listing};
 
 use crate::move_list::MoveList;
@@ -15,14 +15,9 @@ impl MoveList {
         ensures len { result.len ≡ 0 }
         ensures moves { listing result ≡ [] }
     {
-        let none = Move {
-            worker: 0,
-            from: 0,
-            to: 0,
-        };
         MoveList {
             len: 0,
-            moves: [none; 64],
+            moves: [Move::default(); 64],
         }
     }
 
@@ -30,17 +25,16 @@ impl MoveList {
     pub fn as_slice(&self) -> &[Move]
         ensures { result.now ≡ listing self.now }
     {
-        &self.moves[0..self.len]
+        &self.moves[..self.len]
     }
 
     /// A list of the first moves of a slice, at most 64.
     pub fn of(moves: &[Move]) -> MoveList
         ensures { listing result ≡ take 64 moves.now }
     {
-        let first = at_most_64(moves);
         let mut list = MoveList::empty();
-        for i in 0..first.len() {
-            list.push(first[i]);
+        for step in first_moves(moves, 64) {
+            list.push(*step);
         }
         list
     }
@@ -51,39 +45,38 @@ impl MoveList {
         ensures long { length (listing result) ≡ length (listing self.now) }
     {
         let mut back = MoveList::empty();
-        for i in 0..self.len {
-            back.push(way_back(self.moves[i]));
+        for step in self.as_slice() {
+            back.push(way_back(*step));
         }
         back
     }
 
     /// The moves of some workers from one placement to another, by rising worker number.
+    #[tactic(auto, using(crate::proofs::Carried::carried_none, crate::proofs::Carried::carried_more))]
     pub fn between(from: &Placement, to: &Placement, workers: WorkerSet) -> MoveList
         ensures { listing result ≡ carried (place from.now.places) (place to.now.places) (members workers) 64 }
     {
         let mut moves = MoveList::empty();
-        nobody_goes(from, to, workers);
+        // By all numbers, as the moves are defined, and not by the members alone.
         for worker in 0..64u8 {
             moves.carry(from, to, workers, worker);
         }
         moves
     }
 
-    // Adds the move of a worker, if it is one of those that go.
+    // Adds the move of a worker from one placement to another, if it is one of these workers.
     fn carry(&mut self, from: &Placement, to: &Placement, workers: WorkerSet, worker: u8)
-        requires room { self.old.len ≤ worker }
         requires known { worker < 64 }
-        requires before { listing self.old ≡ carried (place from.now.places) (place to.now.places) (members workers) worker }
-        ensures room { self.new.len ≤ worker + 1 }
-        ensures after { listing self.new ≡ carried (place from.now.places) (place to.now.places) (members workers) (worker + 1) }
+        requires room { self.old.len ≤ worker }
+        ensures len { self.new.len ≤ worker + 1 }
+        ensures moves { listing self.new ≡ listing self.old ++ only_if (members workers worker) (move_from (place from.now.places) (place to.now.places) worker) }
     {
         if workers.contains(worker) {
-            let next = Move {
+            self.push(Move {
                 worker,
                 from: from.tenant(worker),
                 to: to.tenant(worker),
-            };
-            self.push(next);
+            });
         }
     }
 
@@ -103,23 +96,20 @@ impl MoveList {
         ensures { result.places ≡ moved (listing self.now) placement.now.places }
     {
         let mut places = placement.places;
-        for i in (0..self.len).rev() {
-            make(&mut places, self.moves[i]);
+        for step in self.as_slice().iter().rev() {
+            make(&mut places, *step);
         }
         Placement::new(places)
     }
 }
 
-// The first moves of a slice, at most 64.
-fn at_most_64(moves: &[Move]) -> &[Move]
-    ensures first { result.now ≡ take 64 moves.now }
-    ensures few { length result.now ≤ 64 }
+// The first moves of a slice, at most so many.
+#[tactic(auto, using(crate::proofs::Carried::first_taken))]
+fn first_moves(moves: &[Move], most: usize) -> &[Move]
+    ensures first { result.now ≡ take most moves.now }
+    ensures few { length result.now ≤ most }
 {
-    if moves.len() <= 64 {
-        moves
-    } else {
-        &moves[0..64]
-    }
+    &moves[..moves.len().min(most)]
 }
 
 // The move back.
@@ -127,16 +117,11 @@ fn way_back(there: Move) -> Move
     ensures { result ≡ turned there }
 {
     Move {
-        worker: there.worker,
         from: there.to,
         to: there.from,
+        ..there
     }
 }
-
-// Before the first worker nobody goes.
-fn nobody_goes(from: &Placement, to: &Placement, workers: WorkerSet)
-    ensures { [] ≡ carried (place from.now.places) (place to.now.places) (members workers) 0 }
-{}
 
 // Makes a move.
 fn make(places: &mut [u8; 64], step: Move)

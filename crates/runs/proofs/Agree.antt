@@ -24,7 +24,7 @@ use Rattle.runs.proofs.Routes.{Route, ends, route_stable, route_alike, same_rota
 use Rattle.runs.proofs.Kept.{placed_after, Kept, board_kept}
 
 pub refused≢accepted : {n : ℕ} {es : List Event} {t : Ticket} → refused n ≡ accepted es t → ⊥
-refused≢accepted e = let z : ◌≡◌ {A = ℕ} 0 1 = cc in omega arith
+refused≢accepted e = cc
 
 refused_inj : {a b : ℕ} → refused a ≡ refused b → a ≡ b
 refused_inj e = cc

@@ -135,9 +135,6 @@ module _ (m : Market) (C : Policy) (settled : List ℕ) where
   preceded_twice : (es fs : List Event) (c : Course) → preceded es (preceded fs c) ≡ preceded (es ++ fs) c
   preceded_twice es fs c = ap (λ (l : List Event). record { reached = c.reached; events = l; stopped = c.stopped }) (sym (append_assoc es fs c.events))
 
-  pub moving_start : (o : State) (log : List Event) → Moving m C settled o log 0 0 o log
-  moving_start o log = record { course = refl; written = refl; room = omega arith; stands = omega arith; stable = λ st. st; came = ([], refl) }
-
   -- a turn that nothing stops moves on
   pub unstopped : (s : State) (w : ℕ) → (turn m C settled s w).stopped ≡ 0 → Moves s w
   unstopped s w e = elim (turn_is s w) [

@@ -53,9 +53,6 @@ module _ (n w : ℕ) (size : Size) (bytes : List ℕ) (d : Progress) where
       go (Ok g) e = absurd (let z : ◌≡◌ {A = ℕ} 0 1 = cc in omega arith)
       go (Err g) e = let same : g ≡ f = cc in ap (λ (x : FieldFault). Err (fault.Field x)) same
 
-  pub workers_end : n ≤ w → read_workers (n - w) size bytes d ≡ Ok d
-  workers_end h = let e : n - w ≡ 0 = omega arith in rw e refl
-
 -- a good list of a worker that there is replaces the worker's list
 pub list_set : (m : Market) (w : ℕ) (l : List ℕ) → w < m.workers → all_under m.tenants l ≡ true → replaced m w l ≡ with_list m w l
 list_set m w l h good = rw (lt-ltb w m.workers h, good) refl

@@ -1,6 +1,5 @@
 -- Lemmas on fields, on the rows that they say, and on sheets and their bytes.
 pub mod Parts
-pub mod Seen
 pub mod Lists
 pub mod Numbers
 pub mod TableSizes
@@ -15,11 +14,10 @@ pub mod OneMore
 pub mod ReadIsWritten
 pub mod Short
 pub mod DueRows
-pub mod Crew
-pub mod Refused
-pub mod TenantSteps
-pub mod Appended
-pub mod RowsPut
+pub mod WorkerRows
 pub mod SheetPut
+pub mod Finds
+pub mod Crew
+pub mod TenantSteps
 pub mod Whole
 pub mod Said

@@ -44,9 +44,6 @@ module _ (n t : ℕ) (size : Size) (bytes : List ℕ) (d : Progress) where
       read_tenants (n - t) size bytes d ≡ Err e
   tenant_fault f e h q g = left_is h ∙ ap left_with q ∙ ap (λ (r : Result SheetText SheetFault). and_then r (λ s. read_tenants (n - (t + 1)) size bytes (after f.kind s))) g
 
-  pub tenants_end : n ≤ t → read_tenants (n - t) size bytes d ≡ Ok d
-  tenants_end h = let e : n - t ≡ 0 = omega arith in rw e refl
-
 -- the tenant that was read is one more
 pub one_more : (s u : SheetText) (at : ℕ) (content : List ℕ) (k : Kind) (lowest : ℕ) → kind_due (NextTenant lowest) (tag_of k) ≡ Some k → tenant_text s at content k ≡ Ok u → tenants_in u ≡ tenants_in s + 1
 one_more s u at content Ranked lowest d e =

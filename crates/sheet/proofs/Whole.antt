@@ -52,13 +52,6 @@ module _ (bytes : List ℕ) where
           ap (λ (p : SheetText × ℕ). after_tenants bytes size p.0 p.1) same
       go (Err g) e = absurd (let z : ◌≡◌ {A = ℕ} 0 1 = cc in omega arith)
 
-  pub tenants_fault : (size : Size) (d : Progress) (g : SheetFault) → text_and_place (read_tenants size.tenants size bytes d) ≡ Err g → after_workers size d ≡ Err g
-  tenants_fault size d g e = go (read_tenants size.tenants size bytes d) e
-    where
-      go : (r : Result Progress SheetFault) → text_and_place r ≡ Err g → with_tenants size r ≡ Err g
-      go (Ok d) e = absurd (let z : ◌≡◌ {A = ℕ} 0 1 = cc in omega arith)
-      go (Err h) e = cc
-
   pub quarantine_read : (size : Size) (s : SheetText) (place : ℕ) (q : List ℕ) → quarantine_due size bytes place ≡ Ok q → after_tenants bytes size s place ≡ read_end bytes (place_after bytes place) (with_quarantine s q)
   quarantine_read size s place q e =
       let m = made_ok (λ (l : List ℕ). l) q (field_due Last size bytes place) e in
@@ -92,3 +85,29 @@ module _ (bytes : List ℕ) where
       let tenants : text_and_place (read_tenants size.tenants size bytes d) ≡ Ok (s, place) =
       sym (e2 ∙ ap (λ (b : List ℕ). text_and_place (read_tenants size.tenants size b d)) (i2 ∙ i1 ∙ i0)) in
       size_read size (sym (e0 ∙ ap₂ size_due i0 h0)) ∙ ap (with_workers size) crew ∙ tenants_read_on size d s place tenants
+
+  -- all but the quarantine is read, and then that and the end, by readers that stood at b0, b1 and b2 of the same bytes
+  module _ (b0 b1 : List ℕ) (size : Size) (s : SheetText) (place : ℕ) (i0 : b0 ≡ bytes) (people : decode b0 ≡ after_tenants b0 size s place) (i1 : b1 ≡ b0) where
+    after_people : decode bytes ≡ after_tenants bytes size s place
+    after_people = ap decode (sym i0) ∙ people ∙ ap (λ (b : List ℕ). after_tenants b size s place) i0
+
+    quarantine_here : quarantine_due size bytes place ≡ quarantine_due size b1 place
+    quarantine_here = ap (λ (b : List ℕ). quarantine_due size b place) (sym (i1 ∙ i0))
+
+    pub stops_at_quarantine : (g : FieldFault) → Err g ≡ quarantine_due size b1 place → decode bytes ≡ Err (fault.Field g)
+    stops_at_quarantine g e = after_people ∙ quarantine_fault size s place g (quarantine_here ∙ sym e)
+
+    module _ (b2 : List ℕ) (q : List ℕ) (at : ℕ) (e : Ok q ≡ quarantine_due size b1 place) (h : at ≡ place_after b1 place) (i2 : b2 ≡ b1) where
+      to_end : decode bytes ≡ read_end bytes at (with_quarantine s q)
+      to_end =
+          after_people ∙ quarantine_read size s place q (quarantine_here ∙ sym e)
+          ∙ ap (λ (p : ℕ). read_end bytes p (with_quarantine s q)) (sym (h ∙ ap (λ (b : List ℕ). place_after b place) (i1 ∙ i0)))
+
+      end_here : end_due bytes at ≡ end_due b2 at
+      end_here = ap (λ (b : List ℕ). end_due b at) (sym (i2 ∙ i1 ∙ i0))
+
+      pub stops_at_end : (g : FieldFault) → Some g ≡ end_due b2 at → decode bytes ≡ Err (fault.Field g)
+      stops_at_end g e = to_end ∙ end_fault at (with_quarantine s q) g (end_here ∙ sym e)
+
+      pub read_whole : None ≡ end_due b2 at → decode bytes ≡ Ok (with_quarantine s q)
+      read_whole e = to_end ∙ end_read at (with_quarantine s q) (end_here ∙ sym e)

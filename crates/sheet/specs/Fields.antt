@@ -1,5 +1,5 @@
 -- Layer 2. What a field may hold: which tags are due, how long its content is, and the ranges of its numbers.
-use Rattle.std.specs.Prelude.{ℕ, ◌+◌, ◌-◌, Bool, cond, not, ◌&&◌, List, length, take, drop, is_some, Some, None, Ok, Err, Option, Result, ◌==◌, nat_eq, nat_le, nat_lt, slice_index}
+use Rattle.std.specs.Prelude.{◌≡◌, ℕ, ◌+◌, ◌-◌, ◌<◌, ◌≤◌, Bool, cond, not, ◌&&◌, List, length, take, drop, is_some, Some, None, Ok, Err, Option, Result, MatchResult, ◌==◌, nat_eq, nat_le, nat_lt, slice_index}
 use Rattle.std.specs.Option.{unwrap_or}
 use Rattle.fleet.specs.Sets.{among}
 use Rattle.policy.specs.Search.{seek}
@@ -14,6 +14,7 @@ use Rattle.sheet.specs.declared.fields.Field.TheVariants as field
 use Rattle.sheet.specs.declared.fields.Size.{Size}
 use Rattle.sheet.specs.declared.fields.Kind.{Kind}
 use Rattle.sheet.specs.declared.fields.Kind.TheVariants.{Counts, Worker, Ranked, Seated, Table, Quarantine}
+use Rattle.sheet.specs.declared.fields.UnknownTag.{UnknownTag}
 use Rattle.sheet.specs.Framing.{Part, required, frame_at}
 
 -- the tag of each kind
@@ -24,6 +25,10 @@ tag_of Ranked = 3
 tag_of Seated = 4
 tag_of Table = 5
 tag_of Quarantine = 6
+
+-- the kind with this tag, or an error with a tag that no kind has: the kinds have the tags 1 to 6
+abbrev pub Decodes : ℕ → Result Kind UnknownTag → Type 0
+Decodes tag r = MatchResult r (λ kind. tag_of kind ≡ tag) (λ e. (e.0 ≡ tag) × (1 ≤ tag → 6 < tag))
 
 -- the kind, if the test is passed
 abbrev pub only : Bool → Kind → Option Kind

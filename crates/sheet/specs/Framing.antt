@@ -1,6 +1,6 @@
 -- Layer 1. A field is a tag byte, a length of two bytes, low byte first, and that many bytes of content.
 use Rattle.std.specs.Prelude.{ℕ, ◌+◌, ◌-◌, ◌*◌, ◌/◌, ◌%◌, Bool, cond, ◌||◌, List, [], ◌∷◌, length, take, drop, Some, None, Ok, Err, Option, Result, ◌==◌, nat_lt, slice_index}
-use Rattle.sheet.specs.declared.framing.Frame.{Frame}
+use Rattle.sheet.specs.declared.frame.Frame.{Frame}
 use Rattle.sheet.specs.declared.faults.FramingFault.{FramingFault}
 use Rattle.sheet.specs.declared.reader.Reader.{Reader}
 

@@ -6,12 +6,9 @@ use Rattle.policy.specs.Choice.{Policy}
 use Rattle.policy.specs.Combined.{joined, quarantined}
 use Rattle.policy.specs.Kinds.{ranked_policy, seated_policy}
 use Rattle.policy.specs.Tables.{table_policy}
-use Rattle.policy.specs.Ranks.{ranks}
-use Rattle.policy.specs.Seats.{seats}
-use Rattle.policy.specs.Entries.{tables}
-use Rattle.policy.specs.declared.ranked.Ranked.{Ranked}
-use Rattle.policy.specs.declared.seated.Seated.{Seated}
-use Rattle.policy.specs.declared.table.Table.{Table}
+use Rattle.policy.specs.Ranks.{Ranked, ranks}
+use Rattle.policy.specs.Seats.{Seated, seats}
+use Rattle.policy.specs.Entries.{Table, tables}
 use Rattle.sheet.specs.declared.faults.SheetFault.{SheetFault}
 use Rattle.sheet.specs.declared.sheet.Sheet.{Sheet}
 use Rattle.sheet.specs.Sheets.{SheetText, WorkerRow, tenants_in}
@@ -52,4 +49,4 @@ policy_said s =
 
 -- the policy that the parts make, kind by kind
 abbrev pub policy_of : Set → Ranked → Seated → Table → Policy
-policy_of Q r s t = quarantined Q (joined (length (ranks r)) (ranked_policy (ranks r)) (joined (length (seats s)) (seated_policy s.classes (seats s)) (table_policy (tables t))))
+policy_of Q r s t = quarantined Q (joined (length (ranks r)) (ranked_policy (ranks r)) (joined (length (seats s)) (seated_policy s.common.classes (seats s)) (table_policy (tables t))))

@@ -16,7 +16,7 @@ use Rattle.sheet.specs.Reading.{after_tenants, tenants_text, decode}
 -- the workers' lists and classes, the tenants of each kind, and the quarantine
 abbrev pub text_of : Lists → Tenants → Ranking 64 → SheetText
 text_of lists tenants quarantine = record {
-  workers = rows_of (market lists) tenants.seated.classes lists.workers;
+  workers = rows_of (market lists) tenants.seated.common.classes lists.workers;
   ranked = ranks tenants.ranked;
   seated = seats tenants.seated;
   tables = tables tenants.tables;
@@ -26,10 +26,5 @@ text_of lists tenants quarantine = record {
 -- all but the quarantine was read, which leaves that to read at the reader's place; or there was a fault
 abbrev pub People : List ℕ → Result (Size × Lists × Tenants) SheetFault → ℕ → Type 0
 People bytes (Ok p) place =
-    decode bytes ≡ after_tenants bytes p.0 (tenants_text (rows_of (market p.1) p.2.seated.classes p.1.workers) p.2) place
+    decode bytes ≡ after_tenants bytes p.0 (tenants_text (rows_of (market p.1) p.2.seated.common.classes p.1.workers) p.2) place
 People bytes (Err e) place = decode bytes ≡ Err e
-
--- the parts that were read, or the fault
-abbrev pub parts_told : Result (Lists × Tenants × Ranking 64) SheetFault → Result SheetText SheetFault
-parts_told (Ok p) = Ok (text_of p.0 p.1 p.2)
-parts_told (Err e) = Err e

@@ -3,7 +3,7 @@ ghost use Rattle.std.specs.Prelude.{◌≡◌, ℕ, ◌+◌, ◌^◌, ◌<◌, �
 ghost use Rattle.policy.specs.Ranks.{ranks};
 ghost use Rattle.policy.specs.Seats.{seats};
 ghost use Rattle.policy.specs.Entries.{tables as tables_of};
-ghost use Rattle.sheet.specs.Fields.{Field as AnyField, field_of, tag_of};
+ghost use Rattle.sheet.specs.Fields.{Field as AnyField, field_of};
 ghost use Rattle.sheet.specs.Sheets.{WorkerRow, good_ranked, good_seated, broken_law};
 ghost use Rattle.sheet.specs.declared.fields.Kind.TheVariants.{Table};
 ghost use Rattle.sheet.specs.Reading.{ranked_row, seated_row, table_row, fault_of, good_tenant, table_told, one_table, added_text, tenants_text, tenant_text};
@@ -14,29 +14,13 @@ use crate::reading::{number, ranking, rest};
 use crate::tenants::Tenants;
 use policy::{Ranked, Seated, Table as Tables, TableFault, TableTenant};
 
-impl<'a> Field<'a> {
-    /// The tag of the field.
-    pub(crate) fn tag(self) -> u8
-        ensures { result ≡ tag_of (field_of self.entry).kind }
-    {
-        match self {
-            Field::Counts { at: _, content: _ } => 1,
-            Field::Worker { at: _, content: _ } => 2,
-            Field::Ranked { at: _, content: _ } => 3,
-            Field::Seated { at: _, content: _ } => 4,
-            Field::Table { at: _, content: _ } => 5,
-            Field::Quarantine { at: _, content: _ } => 6,
-        }
-    }
-}
-
 /// Adds the ranked tenant that a content says.
 fn add_ranked(ranked: &mut Ranked, content: &[u8])
     requires { (good_ranked 64 (ranked_row content.now) ≡ true) × (length (ranks ranked.old) < 16) }
     ensures { ranks ranked.new ≡ ranks ranked.old ++ (ranked_row content.now ∷ []) }
 {
     let list = ranking(rest(content, 1));
-    let _ = ranked.push(number(content, 0), list);
+    ranked.push(number(content, 0), list).unwrap();
 }
 
 /// The eight caps of the classes in the content of a seated tenant.
@@ -44,19 +28,19 @@ fn class_caps(content: &[u8]) -> [u8; 8]
     requires { 9 ≤ length content.now }
     ensures { result ≡ (seated_row content.now).caps }
 {
-    let mut caps = [0; 8];
-    caps.copy_from_slice(&content[1..9]);
-    caps
+    <[u8; 8]>::try_from(&content[1..9]).unwrap()
 }
 
 /// Adds the seated tenant that a content says.
 fn add_seated(seated: &mut Seated, content: &[u8])
     requires { (good_seated 64 (seated_row content.now) ≡ true) × (length (seats seated.old) < 16) }
     ensures rows { seats seated.new ≡ seats seated.old ++ (seated_row content.now ∷ []) }
-    ensures classes { seated.new.classes ≡ seated.old.classes }
+    ensures classes { seated.new.common.classes ≡ seated.old.common.classes }
 {
     let list = ranking(rest(content, 9));
-    let _ = seated.push(number(content, 0), class_caps(content), list);
+    seated
+        .push(number(content, 0), class_caps(content), list)
+        .unwrap();
 }
 
 /// The fault of a table of so many workers at this offset.
@@ -74,8 +58,7 @@ fn table_fault(at: usize, workers: usize, fault: TableFault) -> SheetFault
             whole,
             part,
         },
-        TableFault::Workers => SheetFault::Field(FieldFault::Length { at }),
-        TableFault::Entries => SheetFault::Field(FieldFault::Length { at }),
+        TableFault::Workers | TableFault::Entries => SheetFault::Field(FieldFault::Length { at }),
     }
 }
 
@@ -86,13 +69,11 @@ fn add_table(tables: &mut Tables, at: usize, content: &[u8]) -> Result<(), Sheet
 {
     let count = Kind::Table.list_end(content.len());
     let workers = ranking(&content[0..count]);
-    match TableTenant::new(workers, rest(content, count)) {
-        Ok(tenant) => {
-            let _ = tables.push(tenant);
-            Ok(())
-        }
-        Err(fault) => Err(table_fault(at, count, fault)),
-    }
+    let tenant = TableTenant::new(workers, rest(content, count)).map_err(|fault| table_fault(
+        at, count, fault,
+    ))?;
+    tables.push(tenant).unwrap();
+    Ok(())
 }
 
 impl Tenants {
@@ -102,11 +83,11 @@ impl Tenants {
         requires room { (length (ranks self.old.ranked) < 16) × ((length (seats self.old.seated) < 16) × (length (tables_of self.old.tables) < 16)) }
         requires fits { (field_of field).at + 3 + length (field_of field).content < 2 ^ 63 }
         ensures text { (rows : List WorkerRow) → added_text result (tenants_text rows self.new) ≡ tenant_text (tenants_text rows self.old) (field_of field.entry).at (field_of field.entry).content (field_of field.entry).kind }
-        ensures classes { self.new.seated.classes ≡ self.old.seated.classes }
+        ensures classes { self.new.seated.common.classes ≡ self.old.seated.common.classes }
     {
         match field {
-            Field::Ranked { at: _, content } => add_ranked(&mut self.ranked, content),
-            Field::Seated { at: _, content } => add_seated(&mut self.seated, content),
+            Field::Ranked { content, .. } => add_ranked(&mut self.ranked, content),
+            Field::Seated { content, .. } => add_seated(&mut self.seated, content),
             Field::Table { at, content } => return add_table(&mut self.tables, at, content),
             _ => {}
         }

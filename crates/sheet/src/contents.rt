@@ -2,7 +2,7 @@
 ghost use Rattle.std.specs.Prelude.{◌≡◌, ◌+◌, ◌^◌, ◌<◌, ◌≤◌, length, IfOk};
 ghost use Rattle.sheet.specs.Framing.{part_of, input, place_after};
 ghost use Rattle.std.specs.Option.{unwrap_or};
-ghost use Rattle.sheet.specs.Fields.{table_workers as defined_table_workers, kind_due, tenant_kind, has_length as defined_has_length, before_list as defined_before_list, list_end as defined_list_end, in_range as defined_in_range, out_of_range, repeated, list_part, content_fault, refusal, field_of, fields_of, field_due};
+ghost use Rattle.sheet.specs.Fields.{table_workers as defined_table_workers, kind_due, has_length as defined_has_length, before_list as defined_before_list, list_end as defined_list_end, in_range as defined_in_range, out_of_range, repeated, list_part, content_fault, refusal, field_of, fields_of, field_due};
 
 use crate::faults::FieldFault;
 use crate::fields::{Due, Field, Kind, Size};
@@ -15,41 +15,15 @@ impl Due {
     fn kind(self, tag: u8) -> Option<Kind>
         ensures { result ≡ kind_due self tag }
     {
-        match self {
-            Due::First => {
-                if tag == 1 {
-                    return Some(Kind::Counts);
-                }
-            }
-            Due::NextWorker => {
-                if tag == 2 {
-                    return Some(Kind::Worker);
-                }
-            }
-            Due::NextTenant { lowest } => {
-                if tag >= lowest {
-                    return tenant(tag);
-                }
-            }
-            Due::Last => {
-                if tag == 6 {
-                    return Some(Kind::Quarantine);
-                }
-            }
+        let kind = Kind::try_from(tag).ok()?;
+        match (self, kind) {
+            (Due::First, Kind::Counts)
+            | (Due::NextWorker, Kind::Worker)
+            | (Due::Last, Kind::Quarantine) => Some(kind),
+            (Due::NextTenant { lowest }, Kind::Ranked | Kind::Seated | Kind::Table)
+                if tag >= lowest => { Some(kind) }
+            _ => None,
         }
-        None
-    }
-}
-
-/// The kind of tenant with this tag.
-fn tenant(tag: u8) -> Option<Kind>
-    ensures { result ≡ tenant_kind tag }
-{
-    match tag {
-        3 => Some(Kind::Ranked),
-        4 => Some(Kind::Seated),
-        5 => Some(Kind::Table),
-        _ => None,
     }
 }
 
@@ -60,9 +34,9 @@ impl Kind {
     {
         match self {
             Kind::Counts => len == 2,
-            Kind::Worker => 1 <= len && len <= 17,
-            Kind::Ranked => 1 <= len && len <= 65,
-            Kind::Seated => 9 <= len && len <= 73,
+            Kind::Worker => matches!(len, 1..=17),
+            Kind::Ranked => matches!(len, 1..=65),
+            Kind::Seated => matches!(len, 9..=73),
             Kind::Table => table_workers(len).is_some(),
             Kind::Quarantine => len <= 64,
         }
@@ -95,28 +69,25 @@ impl Kind {
     fn in_range(self, size: Size, place: usize, number: u8) -> bool
         ensures { result ≡ defined_in_range self size place number }
     {
-        match self {
-            Kind::Counts => 1 <= number && number <= if place == 0 { 64 } else { 16 },
-            Kind::Worker => number < if place == 0 { 8 } else { size.tenants },
-            Kind::Ranked => number < if place < 1 { 65 } else { size.workers },
-            Kind::Seated => number < if place < 9 { 65 } else { size.workers },
-            Kind::Table | Kind::Quarantine => number < size.workers,
+        match (self, place) {
+            (Kind::Counts, 0) => matches!(number, 1..=64),
+            (Kind::Counts, _) => matches!(number, 1..=16),
+            (Kind::Worker, 0) => number < 8,
+            (Kind::Worker, _) => number < size.tenants,
+            (Kind::Ranked, 0) | (Kind::Seated, 0..=8) => number <= 64,
+            _ => number < size.workers,
         }
     }
 }
 
+// Kept in the two searches below: places, since a number's range goes by its place, and a number is looked for among those before its place.
 /// The place in the content of the first number that is outside its range.
 fn first_out_of_range(kind: Kind, size: Size, content: &[u8]) -> Option<usize>
     ensures value { result ≡ out_of_range kind size content.now }
     ensures within { unwrap_or result 0 ≤ length content.now }
 {
     let end = kind.list_end(content.len());
-    for i in 0..end {
-        if !kind.in_range(size, i, content[i]) {
-            return Some(i);
-        }
-    }
-    None
+    (0..end).find(|place| !kind.in_range(size, *place, content[*place]))
 }
 
 /// The place of the first number of a list that stands there before.
@@ -124,20 +95,11 @@ fn first_repeated(list: &[u8]) -> Option<usize>
     ensures value { result ≡ repeated list.now }
     ensures within { unwrap_or result 0 ≤ length list.now }
 {
-    let mut seen = [false; 256];
-    for i in 0..list.len() {
-        let number = list[i] as usize;
-        if seen[number] {
-            return Some(i);
-        }
-        seen[number] = true;
-    }
-    None
+    (0..list.len()).find(|place| list[..*place].contains(&list[*place]))
 }
 
 /// What is wrong with the content of a field of this kind: its length, then a number outside its range, then a number twice in its list.
 fn check_content(kind: Kind, size: Size, frame: Frame<'_>) -> Result<(), FieldFault>
-    requires { frame.at + 3 + length frame.content.now < 2 ^ 63 }
     ensures { refusal result ≡ content_fault kind size (part_of frame.entry) }
 {
     let content = frame.content;
@@ -186,9 +148,7 @@ impl<'a> Reader<'a> {
         ensures fits { IfOk (fields_of result) (λ f. f.at + 3 + length f.content < 2 ^ 63) }
     {
         let frame = self.require()?;
-        let Some(kind) = due.kind(frame.tag) else {
-            return Err(FieldFault::Tag { at: frame.at });
-        };
+        let kind = due.kind(frame.tag).ok_or(FieldFault::Tag { at: frame.at })?;
         check_content(kind, size, frame)?;
         Ok(Field::new(kind, frame))
     }
@@ -199,11 +159,6 @@ fn table_workers(len: usize) -> Option<usize>
     ensures value { result ≡ defined_table_workers len }
     ensures within { unwrap_or result 0 ≤ len }
 {
-    if len > 264 {
-        return None;
-    }
-    match workers_of(len as u16) {
-        Some(workers) => Some(workers as usize),
-        None => None,
-    }
+    let workers = workers_of(u16::try_from(len).ok()?)?;
+    Some(usize::from(workers))
 }

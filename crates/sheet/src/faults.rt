@@ -1,20 +1,20 @@
 // What can be wrong with the bytes of a sheet, layer by layer: each layer's fault holds that of the layer below.
 ghost use Rattle.std.specs.Prelude.{◌≡◌};
-ghost use Rattle.policy.specs.Faults.{law_number as defined_law_number};
-ghost use Rattle.sheet.specs.Faults.{field_report, report as told};
+ghost use Rattle.sheet.specs.Faults.{plain, field_report, report as told};
 ghost use Rattle.sheet.specs.declared.faults.FieldFault.TheVariants.{Framing};
 ghost use Rattle.sheet.specs.declared.faults.SheetFault.TheVariants.{Field};
 
 use policy::fault::TableLaw;
+use std::fmt;
 
 /// A field that is due at this offset has fewer than three bytes, or its content is cut off.
-#[derive(Clone, Copy)]
+#[derive(Clone, Copy, PartialEq, Eq, Debug)]
 pub struct FramingFault {
     pub at: usize,
 }
 
 /// A field does not say what is due, whatever the sheet means.
-#[derive(Clone, Copy)]
+#[derive(Clone, Copy, PartialEq, Eq, Debug)]
 pub enum FieldFault {
     Framing(FramingFault),
     /// Its tag is not due here.
@@ -30,7 +30,7 @@ pub enum FieldFault {
 }
 
 /// A sheet that cannot be read.
-#[derive(Clone, Copy)]
+#[derive(Clone, Copy, PartialEq, Eq, Debug)]
 pub enum SheetFault {
     Field(FieldFault),
     /// A table's entry chooses somebody who is not in its set.
@@ -47,13 +47,44 @@ pub enum SheetFault {
 }
 
 /// What is told of a fault: its number, its place, its layer, and two sets, 0 where there are none.
-#[derive(Clone, Copy)]
+#[derive(Clone, Copy, PartialEq, Eq, Debug)]
 pub struct Report {
     pub number: u8,
     pub at: usize,
     pub layer: u8,
     pub outer: u8,
     pub inner: u8,
+}
+
+impl Report {
+    /// What is told of a fault without sets.
+    pub fn plain(number: u8, at: usize, layer: u8) -> Report
+        ensures { result ≡ plain number at layer }
+    {
+        Report {
+            number,
+            at,
+            layer,
+            outer: 0,
+            inner: 0,
+        }
+    }
+}
+
+impl fmt::Display for Report {
+    fn fmt<W: fmt::Write>(&self, f: &mut fmt::Formatter<W>) -> fmt::Result {
+        let Report {
+            number,
+            at,
+            layer,
+            outer,
+            inner,
+        } = self;
+        write!(
+            f,
+            "fault {number} at {at} layer {layer} sets {outer} {inner}"
+        )
+    }
 }
 
 impl SheetFault {
@@ -63,37 +94,18 @@ impl SheetFault {
     {
         match self {
             SheetFault::Field(fault) => fault.report(),
-            SheetFault::Outside { at } => Report {
-                number: 20,
-                at,
-                layer: 3,
-                outer: 0,
-                inner: 0,
-            },
+            SheetFault::Outside { at } => Report::plain(20, at, 3),
             SheetFault::Broken {
                 at,
                 law,
                 whole,
                 part,
             } => Report {
-                number: law_number(law),
-                at,
-                layer: 3,
                 outer: whole,
                 inner: part,
+                ..Report::plain(law.number(), at, 3)
             },
         }
-    }
-}
-
-/// The number of the fault where a law of choice is broken.
-fn law_number(law: TableLaw) -> u8
-    ensures { result ≡ defined_law_number law }
-{
-    match law {
-        TableLaw::Substitutability => 21,
-        TableLaw::Monotonicity => 22,
-        TableLaw::Consistency => 23,
     }
 }
 
@@ -101,20 +113,13 @@ impl FieldFault {
     fn report(self) -> Report
         ensures { result ≡ field_report self }
     {
-        let (number, at, layer) = match self {
-            FieldFault::Framing(fault) => (10, fault.at, 1),
-            FieldFault::Tag { at } => (11, at, 2),
-            FieldFault::Length { at } => (12, at, 2),
-            FieldFault::Range { at } => (13, at, 2),
-            FieldFault::Repeat { at } => (14, at, 2),
-            FieldFault::Surplus { at } => (15, at, 2),
-        };
-        Report {
-            number,
-            at,
-            layer,
-            outer: 0,
-            inner: 0,
+        match self {
+            FieldFault::Framing(fault) => Report::plain(10, fault.at, 1),
+            FieldFault::Tag { at } => Report::plain(11, at, 2),
+            FieldFault::Length { at } => Report::plain(12, at, 2),
+            FieldFault::Range { at } => Report::plain(13, at, 2),
+            FieldFault::Repeat { at } => Report::plain(14, at, 2),
+            FieldFault::Surplus { at } => Report::plain(15, at, 2),
         }
     }
 }

@@ -7,6 +7,7 @@ mod contents;
 pub mod encoded;
 pub mod faults;
 pub mod fields;
+pub mod frame;
 pub mod framing;
 pub mod reader;
 mod reading;

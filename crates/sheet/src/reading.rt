@@ -6,15 +6,17 @@ ghost use Rattle.fleet.specs.Rankings.{listed};
 ghost use Rattle.policy.specs.Ranks.{ranks};
 ghost use Rattle.policy.specs.Seats.{seats};
 ghost use Rattle.policy.specs.Entries.{tables};
-ghost use Rattle.sheet.specs.Sheets.{WorkerRow, tenants_in, is_list, good_worker};
-ghost use Rattle.sheet.specs.Texts.{People, parts_told, text_of};
+ghost use Rattle.sheet.specs.Sheets.{WorkerRow, is_list, good_worker};
+ghost use Rattle.sheet.specs.Texts.{People};
+ghost use Rattle.sheet.specs.Says.{sheet_told};
 ghost use Rattle.sheet.specs.Framing.{input, place_after};
 ghost use Rattle.sheet.specs.Fields.{field_of};
 ghost use Rattle.sheet.specs.Reading.{size_due, worker_due, worker_told, crew_progress, read_workers as defined_read_workers, no_text, tenants_read, text_and_place, read_tenants as defined_read_tenants, rows_text, quarantine_told, quarantine_due, end_told, end_due, decode};
 
 use crate::faults::{FieldFault, SheetFault};
-use crate::fields::{Due, Field, Size};
+use crate::fields::{Due, Field, Kind, Size};
 use crate::reader::Reader;
+use crate::sheet::Sheet;
 use crate::tenants::Tenants;
 use fleet::{Lists, Ranking};
 use policy::{Ranked, Seated, Table};
@@ -25,12 +27,26 @@ impl<'a> Field<'a> {
         ensures { result.now ≡ (field_of self.entry).content }
     {
         match self {
-            Field::Counts { at: _, content } => content,
-            Field::Worker { at: _, content } => content,
-            Field::Ranked { at: _, content } => content,
-            Field::Seated { at: _, content } => content,
-            Field::Table { at: _, content } => content,
-            Field::Quarantine { at: _, content } => content,
+            Field::Counts { content, .. }
+            | Field::Worker { content, .. }
+            | Field::Ranked { content, .. }
+            | Field::Seated { content, .. }
+            | Field::Table { content, .. }
+            | Field::Quarantine { content, .. } => content,
+        }
+    }
+
+    /// The kind of the field.
+    fn kind(self) -> Kind
+        ensures { result ≡ (field_of self.entry).kind }
+    {
+        match self {
+            Field::Counts { .. } => Kind::Counts,
+            Field::Worker { .. } => Kind::Worker,
+            Field::Ranked { .. } => Kind::Ranked,
+            Field::Seated { .. } => Kind::Seated,
+            Field::Table { .. } => Kind::Table,
+            Field::Quarantine { .. } => Kind::Quarantine,
         }
     }
 }
@@ -39,34 +55,24 @@ impl<'a> Field<'a> {
 pub(crate) fn number(content: &[u8], place: usize) -> u8
     ensures { result ≡ slice_index content.now place }
 {
-    if place < content.len() {
-        content[place]
-    } else {
-        0
-    }
+    content.get(place).copied().unwrap_or(0)
 }
 
 /// What stands in a content from a place on.
 pub(crate) fn rest(content: &[u8], place: usize) -> &[u8]
     ensures { result.now ≡ drop place content.now }
 {
-    if place < content.len() {
-        &content[place..]
-    } else {
-        &[]
-    }
+    content.get(place..).unwrap_or(&[])
 }
 
 /// The ranking of these numbers, which are different and below `N`.
 pub(crate) fn ranking<const N: usize>(numbers: &[u8]) -> Ranking<N>
     ensures { is_list N numbers.now ≡ true → listed result ≡ numbers.now }
 {
-    let mut ranking = Ranking::empty();
-    for i in 0..numbers.len() {
-        let _ = ranking.push(numbers[i]);
-    }
-    ranking
+    Ranking::try_from(numbers).unwrap_or(Ranking::empty())
 }
+
+// The size stands beside the reader in the functions below: with both in one struct, each of them would have to promise that the size stays. That the input stays is said by each too: it is a fact of two states, which no type says.
 
 /// How many workers and tenants the sheet has.
 fn read_size(reader: &mut Reader<'_>) -> Result<Size, FieldFault>
@@ -75,11 +81,7 @@ fn read_size(reader: &mut Reader<'_>) -> Result<Size, FieldFault>
     ensures input { input reader.new ≡ input reader.old }
     ensures range { IfOk result (λ size. (1 ≤ size.workers) × (size.workers ≤ 64) × (1 ≤ size.tenants) × (size.tenants ≤ 16)) }
 {
-    let size = Size {
-        workers: 0,
-        tenants: 0,
-    };
-    let content = reader.field(Due::First, size)?.content();
+    let content = reader.field(Due::First, Size::default())?.content();
     Ok(Size {
         workers: number(content, 0),
         tenants: number(content, 1),
@@ -108,13 +110,12 @@ fn read_workers(reader: &mut Reader<'_>, size: Size) -> Result<(Lists, [u8; 64])
     ensures counts { IfOk result (λ crew. ((market crew.0).workers ≡ size.workers) × ((market crew.0).tenants ≡ size.tenants)) }
 {
     let mut classes = [0; 64];
-    let Ok(mut lists) = Lists::new(size.workers, size.tenants) else {
-        unreachable()
-    };
+    let mut lists = Lists::new(size.workers, size.tenants).unwrap();
+    // Kept: classes are set by number, since nothing is known afterwards of what an adapter of `iter_mut` wrote.
     for worker in 0..size.workers {
         let (class, list) = read_worker(reader, size)?;
         classes[worker as usize] = class;
-        let _ = lists.set(worker, list);
+        lists.set(worker, list).unwrap();
     }
     Ok((lists, classes))
 }
@@ -128,21 +129,18 @@ fn read_tenants(
     requires { (size.workers ≤ 64) × ((size.tenants ≤ 16) × (all_under 8 classes ≡ true)) }
     ensures value { (rows : List WorkerRow) → tenants_read rows result reader.new.place ≡ text_and_place (defined_read_tenants size.tenants size (input reader.old) (record { place = reader.old.place; lowest = 3; text = rows_text rows })) }
     ensures input { input reader.new ≡ input reader.old }
-    ensures classes { IfOk result (λ t. t.seated.classes ≡ classes) }
+    ensures classes { IfOk result (λ t. t.seated.common.classes ≡ classes) }
     ensures counts { IfOk result (λ t. length (ranks t.ranked) + length (seats t.seated) + length (tables t.tables) ≡ size.tenants) }
 {
-    let Ok(seated) = Seated::new(classes) else {
-        unreachable()
-    };
     let mut tenants = Tenants {
         ranked: Ranked::empty(),
-        seated,
+        seated: Seated::new(classes).unwrap(),
         tables: Table::empty(),
     };
     let mut lowest = 3;
     for number in 0..size.tenants {
         let field = reader.field(Due::NextTenant { lowest }, size)?;
-        lowest = field.tag();
+        lowest = field.kind() as u8;
         tenants.add(field)?;
     }
     Ok(tenants)
@@ -176,7 +174,7 @@ fn read_people(reader: &mut Reader<'_>) -> Result<(Size, Lists, Tenants), SheetF
     ensures value { People (input reader.old) result reader.new.place }
     ensures input { input reader.new ≡ input reader.old }
     ensures few { IfOk result (λ p. p.0.workers ≤ 64) }
-    ensures idle { IfOk result (λ p. (w : ℕ) → p.1.workers ≤ w → slice_index p.2.seated.classes w ≡ 0) }
+    ensures idle { IfOk result (λ p. (w : ℕ) → p.1.workers ≤ w → slice_index p.2.seated.common.classes w ≡ 0) }
     ensures counts { IfOk result (λ p. p.1.tenants ≡ length (ranks p.2.ranked) + length (seats p.2.seated) + length (tables p.2.tables)) }
 {
     let size = read_size(reader)?;
@@ -185,15 +183,17 @@ fn read_people(reader: &mut Reader<'_>) -> Result<(Size, Lists, Tenants), SheetF
     Ok((size, lists, tenants))
 }
 
-/// What the bytes of a sheet say: the workers' lists, the tenants and the quarantine.
-pub(crate) fn read_parts(bytes: &[u8]) -> Result<(Lists, Tenants, Ranking<64>), SheetFault>
-    ensures value { parts_told result ≡ decode bytes.now }
-    ensures counts { IfOk result (λ p. p.0.tenants ≡ tenants_in (text_of p.0 p.1 p.2)) }
-    ensures idle { IfOk result (λ p. (w : ℕ) → p.0.workers ≤ w → slice_index p.1.seated.classes w ≡ 0) }
+/// The sheet that bytes say.
+pub(crate) fn read_sheet(bytes: &[u8]) -> Result<Sheet, SheetFault>
+    ensures { sheet_told result ≡ decode bytes.now }
 {
     let mut reader = Reader::new(bytes);
     let (size, lists, tenants) = read_people(&mut reader)?;
     let quarantine = read_quarantine(&mut reader, size)?;
     read_end(&reader)?;
-    Ok((lists, tenants, quarantine))
+    Ok(Sheet {
+        lists,
+        tenants,
+        quarantine,
+    })
 }

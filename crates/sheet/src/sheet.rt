@@ -13,6 +13,6 @@ pub struct Sheet {
     pub(crate) tenants: Tenants,
     pub(crate) quarantine: Ranking<64>,
     ghost counted: { lists.tenants ≡ tenants_in (text_of lists tenants quarantine) },
-    ghost idle: { (w : ℕ) → lists.workers ≤ w → slice_index tenants.seated.classes w ≡ 0 },
+    ghost idle: { (w : ℕ) → lists.workers ≤ w → slice_index tenants.seated.common.classes w ≡ 0 },
     ghost formed: { well_formed (text_of lists tenants quarantine) ≡ true },
 }

@@ -8,17 +8,15 @@ ghost use Rattle.policy.specs.Ranks.{ranks};
 ghost use Rattle.policy.specs.Seats.{seats};
 ghost use Rattle.policy.specs.Entries.{tables};
 ghost use Rattle.sheet.specs.Reading.{decode};
-ghost use Rattle.sheet.specs.Says.{text, one_worker_text, market_said, policy_of, policy_said, read_told, sheet_told};
+ghost use Rattle.sheet.specs.Says.{text, one_worker_text, market_said, policy_of, policy_said, read_told};
 ghost use Rattle.sheet.specs.Laws.{ReadsExactly, WrittenLaw};
 ghost use Rattle.sheet.specs.Sheets.{encode};
 ghost use Rattle.sheet.specs.Writes.{write_told, write_answer, written_over};
 
 use crate::faults::SheetFault;
-use crate::framing::are_bytes;
-use crate::reading::read_parts;
+use crate::reading::read_sheet;
 use crate::sheet::Sheet;
 use crate::tenants::Tenants;
-use crate::writing::encoded;
 use fleet::{Lists, Ranking, WorkerSet};
 use policy::{Pair, Quarantine, Ranked, Seated, Table};
 
@@ -29,32 +27,12 @@ pub enum WriteRefusal {
     NoRoom,
 }
 
-// A lemma: bytes are read exactly where they are those of a well-formed sheet.
-fn reads_exactly(bytes: &[u8])
-    ensures { ReadsExactly bytes.now }
-{
-    are_bytes(bytes);
-}
-
-/// The sheet that bytes say.
-fn read_sheet(bytes: &[u8]) -> Result<Sheet, SheetFault>
-    ensures { sheet_told result ≡ decode bytes.now }
-{
-    reads_exactly(bytes);
-    let (lists, tenants, quarantine) = read_parts(bytes)?;
-    Ok(Sheet {
-        lists,
-        tenants,
-        quarantine,
-    })
-}
-
-// A lemma: the lists of a sheet are those that it says.
+// A lemma: the lists of a sheet are those that it says. It speaks of the sheet alone, so that what `lists` hands out is held against it.
 fn lists_are_said(sheet: &Sheet)
     ensures { market sheet.now.lists ≡ market_said (text sheet.now) }
 {}
 
-// A lemma: the tenants of a sheet, with its quarantine held back, are the policy that it says.
+// A lemma: the tenants of a sheet, with its quarantine held back, are the policy that it says. It asks who is held, so that what `policy` holds back is checked at its call.
 fn policy_is_said(sheet: &Sheet, held: WorkerSet)
     requires { members held ≡ among (listed sheet.now.quarantine) }
     ensures { policy_of (members held) sheet.now.tenants.ranked sheet.now.tenants.seated sheet.now.tenants.tables ≡ policy_said (text sheet.now) }
@@ -65,16 +43,13 @@ fn one_tenant(cap: u8) -> Tenants
     requires { «cap» ≤ 64 }
     ensures ranked { ranks result.ranked ≡ record { cap = «cap»; list = [] } ∷ [] }
     ensures others { (seats result.seated ≡ []) × (tables result.tables ≡ []) }
-    ensures classes { result.seated.classes ≡ replicate 64 0 }
+    ensures classes { result.seated.common.classes ≡ replicate 64 0 }
 {
-    let Ok(seated) = Seated::new([0; 64]) else {
-        unreachable()
-    };
     let mut ranked = Ranked::empty();
-    let _ = ranked.push(cap, Ranking::empty());
+    ranked.push(cap, Ranking::empty()).unwrap();
     Tenants {
         ranked,
-        seated,
+        seated: Seated::new([0; 64]).unwrap(),
         tables: Table::empty(),
     }
 }
@@ -84,44 +59,32 @@ fn one_worker(cap: u8) -> Sheet
     requires { «cap» ≤ 64 }
     ensures { text result ≡ one_worker_text «cap» }
 {
-    let Ok(lists) = Lists::new(1, 1) else {
-        unreachable()
-    };
     Sheet {
-        lists,
+        lists: Lists::new(1, 1).unwrap(),
         tenants: one_tenant(cap),
         quarantine: Ranking::empty(),
     }
 }
-
-// A lemma: the bytes of a sheet are few, are read as that sheet, and are no other sheet's.
-fn written_law(sheet: &Sheet)
-    ensures { WrittenLaw (text sheet.now) }
-{}
 
 /// Puts bytes in front of a buffer, and answers how many there are. Into a shorter buffer nothing is put.
 fn put_in_front(bytes: &[u8], buffer: &mut [u8]) -> Result<usize, WriteRefusal>
     ensures value { write_told result ≡ write_answer bytes.now buffer.old }
     ensures after { buffer.new ≡ written_over bytes.now buffer.old }
 {
+    // The length is asked first: of a part that `get_mut` lends it is not known what the buffer keeps where there is none.
     let len = bytes.len();
     if buffer.len() < len {
         return Err(WriteRefusal::NoRoom);
     }
-    buffer[0..len].copy_from_slice(bytes);
+    buffer[..len].copy_from_slice(bytes);
     Ok(len)
 }
 
-/// The set of the workers of a ranking.
+/// The set of the workers of a ranking; all are below 64, so none is left out.
 fn set_of(ranking: &Ranking<64>) -> WorkerSet
     ensures { members result ≡ among (listed ranking.now) }
 {
-    let workers = ranking.as_slice();
-    let mut set = WorkerSet::empty();
-    for i in 0..workers.len() {
-        set = set.with(workers[i]);
-    }
-    set
+    WorkerSet::from(ranking.as_slice())
 }
 
 impl Sheet {
@@ -167,9 +130,7 @@ impl Sheet {
         ensures after { buffer.new ≡ written_over (encode (text self.now)) buffer.old }
         ensures law { WrittenLaw (text self.now) }
     {
-        written_law(self);
-        let encoded = encoded(&self.lists, &self.tenants, &self.quarantine);
-        put_in_front(encoded.as_slice(), buffer)
+        put_in_front(self.encoded().as_slice(), buffer)
     }
 
     /// Reads a sheet. On a fault the sheet stays as it was.
@@ -178,7 +139,6 @@ impl Sheet {
         ensures kept { OnErr result (self.new ≡ self.old) }
         ensures exact { ReadsExactly bytes.now }
     {
-        reads_exactly(bytes);
         *self = read_sheet(bytes)?;
         Ok(())
     }

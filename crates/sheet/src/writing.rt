@@ -1,44 +1,30 @@
 // Writes the bytes of a sheet, field by field.
-ghost use Rattle.std.specs.Prelude.{◌≡◌, ◌+◌, ◌≤◌, true, [], ◌∷◌, ◌++◌, length};
+ghost use Rattle.std.specs.Prelude.{◌≡◌, ℕ, ◌+◌, ◌<◌, ◌≤◌, List, [], ◌∷◌, ◌++◌, map, length, slice_index_or};
 ghost use Rattle.fleet.specs.Lists.{market};
-ghost use Rattle.policy.specs.Ranks.{ranks};
-ghost use Rattle.policy.specs.Seats.{seat_rule, seats};
-ghost use Rattle.policy.specs.Entries.{tables};
-ghost use Rattle.sheet.specs.declared.fields.Kind.TheVariants.{Counts, Worker, Ranked as RankedKind, Seated as SeatedKind, Table as TableKind};
-ghost use Rattle.sheet.specs.Fields.{tag_of};
-ghost use Rattle.sheet.specs.Sheets.{rows_of, written, worker_content, ranked_content, seated_content, table_content, encode, well_formed};
-ghost use Rattle.sheet.specs.Texts.{text_of};
-ghost use Rattle.sheet.specs.Encoding.{held, fields, tenants_of, tenant_fields};
+ghost use Rattle.policy.specs.Rosters.{rules};
+ghost use Rattle.policy.specs.Kinds.{RankedRule, SeatedRule};
+ghost use Rattle.policy.specs.Tables.{TableRule};
+ghost use Rattle.policy.specs.Ranks.{rank_rule};
+ghost use Rattle.policy.specs.Seats.{seat_rule};
+ghost use Rattle.policy.specs.Entries.{table_rule};
+ghost use Rattle.sheet.specs.declared.fields.Kind.{Kind as FieldKind};
+ghost use Rattle.sheet.specs.declared.fields.Kind.TheVariants.{Worker, Ranked as RankedKind, Seated as SeatedKind, Table as TableKind};
+ghost use Rattle.sheet.specs.Sheets.{rows_of, written, worker_content, ranked_content, seated_content, table_content, encode};
+ghost use Rattle.sheet.specs.Says.{text};
+ghost use Rattle.sheet.specs.Encoding.{held, fields};
 
 use crate::encoded::Encoded;
 use crate::fields::Kind;
-use crate::tenants::Tenants;
-use fleet::{Lists, Ranking};
-use policy::{Policy, Ranked, Seated, SeatedTenant, Table};
-
-impl Kind {
-    /// The tag of fields of this kind.
-    fn tag(self) -> u8
-        ensures { result ≡ tag_of self }
-    {
-        match self {
-            Kind::Counts => 1,
-            Kind::Worker => 2,
-            Kind::Ranked => 3,
-            Kind::Seated => 4,
-            Kind::Table => 5,
-            Kind::Quarantine => 6,
-        }
-    }
-}
+use crate::sheet::Sheet;
+use fleet::Lists;
+use policy::{RankedTenant, Roster, SeatedTenant, TableTenant, Tenant};
 
 impl Encoded {
     /// The bytes so far.
     pub(crate) fn as_slice(&self) -> &[u8]
         ensures { result.now ≡ held self.now }
     {
-        let all = &self.bytes[..];
-        &all[0..self.len]
+        &self.bytes[..self.len]
     }
 
     /// No bytes yet.
@@ -66,79 +52,132 @@ impl Encoded {
         requires { length (held self.old) + length (written kind (first.now ++ second.now)) ≤ 5624 }
         ensures { held self.new ≡ held self.old ++ written kind (first.now ++ second.now) }
     {
-        let size = first.len() + second.len();
-        self.put(&[kind.tag(), (size % 256) as u8, (size / 256) as u8]);
+        let [low, high] = ((first.len() + second.len()) as u16).to_le_bytes();
+        self.put(&[kind as u8, low, high]);
         self.put(first);
         self.put(second);
     }
 
-    /// Puts the field that says how many workers and tenants there are.
-    fn counts(&mut self, lists: &Lists, tenants: &Tenants)
-        requires { (length (held self.old) + 5 ≤ 5624) × (tenants_of tenants.now ≤ 16) }
-        ensures { held self.new ≡ held self.old ++ written Counts ((market lists.now).workers ∷ tenants_of tenants.now ∷ []) }
+    /// Puts a field for each row.
+    fn rows<R: Rows>(&mut self, rows: &R)
+        requires { length (held self.old) + length (fields R.kind (R.contents rows.now)) ≤ 5624 }
+        ensures { held self.new ≡ held self.old ++ fields R.kind (R.contents rows.now) }
     {
-        let count = tenants.ranked.count() + tenants.seated.count() + tenants.tables.count();
-        self.field(Kind::Counts, &[lists.workers()], &[count]);
-    }
-
-    /// Puts a field for each worker.
-    fn workers(&mut self, lists: &Lists, classes: &[u8; 64])
-        requires { length (held self.old) + length (fields Worker worker_content (rows_of (market lists.now) classes.now (market lists.now).workers)) ≤ 5624 }
-        ensures { held self.new ≡ held self.old ++ fields Worker worker_content (rows_of (market lists.now) classes.now (market lists.now).workers) }
-    {
-        for worker in 0..lists.workers() {
-            let list = lists.list(worker);
-            self.field(Kind::Worker, &[classes[worker as usize]], list.as_slice());
+        for number in 0..rows.rows() {
+            rows.put(number, self);
         }
     }
+}
 
-    /// Puts a field for each ranked tenant.
-    fn ranked(&mut self, tenants: &Ranked)
-        requires { length (held self.old) + length (fields RankedKind ranked_content (ranks tenants.now)) ≤ 5624 }
-        ensures { held self.new ≡ held self.old ++ fields RankedKind ranked_content (ranks tenants.now) }
-    {
-        for number in 0..tenants.count() {
-            let Some(tenant) = tenants.tenant(number) else {
-                unreachable()
-            };
-            self.field(Kind::Ranked, &[tenant.cap()], tenant.list().as_slice());
-        }
+/// Rows of one kind in a sheet, by number: each is written as a field.
+trait Rows {
+    ghost kind: { FieldKind };
+
+    ghost contents: { Self → List (List ℕ) };
+
+    /// How many rows there are.
+    fn rows(&self) -> u8
+        ensures { result ≡ length (contents self.now) };
+
+    /// Puts the field of the row of this number.
+    fn put(&self, number: u8, sheet: &mut Encoded)
+        requires known { number < length (contents self.now) }
+        requires room { length (held sheet.old) + length (written kind (slice_index_or (contents self.now) number [])) ≤ 5624 }
+        ensures { held sheet.new ≡ held sheet.old ++ written kind (slice_index_or (contents self.now) number []) };
+}
+
+/// The workers of a sheet: their lists, and their classes.
+#[derive(Clone, Copy)]
+struct Workers<'a> {
+    lists: &'a Lists,
+    classes: &'a [u8; 64],
+}
+
+impl Rows for Workers<'_> {
+    ghost kind = { Worker };
+
+    ghost contents = { λ w. map worker_content (rows_of (market w.lists.now) w.classes.now (market w.lists.now).workers) };
+
+    fn rows(&self) -> u8 {
+        self.lists.workers()
     }
 
-    /// Puts a field for each seated tenant.
-    fn seated(&mut self, tenants: &Seated)
-        requires { length (held self.old) + length (fields SeatedKind seated_content (seats tenants.now)) ≤ 5624 }
-        ensures { held self.new ≡ held self.old ++ fields SeatedKind seated_content (seats tenants.now) }
-    {
-        for number in 0..tenants.count() {
-            let Some(tenant) = tenants.tenant(number) else {
-                unreachable()
-            };
-            self.field(Kind::Seated, &all_caps(tenant), tenant.list().as_slice());
-        }
+    fn put(&self, number: u8, sheet: &mut Encoded) {
+        let list = self.lists.list(number);
+        let class = self.classes[number as usize];
+        sheet.field(Kind::Worker, &[class], list.as_slice());
+    }
+}
+
+/// A tenant that a row of a sheet says.
+trait Row: Tenant {
+    ghost kind: { FieldKind };
+
+    ghost Said: { Type 0 };
+
+    ghost said: { Self → Said };
+
+    ghost content: { Said → List ℕ };
+
+    /// Puts the field of the tenant.
+    fn put(&self, sheet: &mut Encoded)
+        requires { length (held sheet.old) + length (written kind (content (said self.now))) ≤ 5624 }
+        ensures { held sheet.new ≡ held sheet.old ++ written kind (content (said self.now)) };
+}
+
+impl<T: Row> Rows for Roster<T, T::Common> {
+    ghost kind = { T.kind };
+
+    ghost contents = { λ t. map T.content (rules T.said t) };
+
+    fn rows(&self) -> u8 {
+        self.as_slice().len() as u8
     }
 
-    /// Puts a field for each table.
-    fn tables(&mut self, tenants: &Table)
-        requires { length (held self.old) + length (fields TableKind table_content (tables tenants.now)) ≤ 5624 }
-        ensures { held self.new ≡ held self.old ++ fields TableKind table_content (tables tenants.now) }
-    {
-        for number in 0..tenants.count() {
-            let Some(tenant) = tenants.tenant(number) else {
-                unreachable()
-            };
-            self.field(Kind::Table, tenant.workers().as_slice(), tenant.entries());
-        }
+    fn put(&self, number: u8, sheet: &mut Encoded) {
+        self.as_slice()[number as usize].put(sheet);
     }
+}
 
-    /// Puts a field for each tenant.
-    fn tenants(&mut self, tenants: &Tenants)
-        requires { length (held self.old) + length (tenant_fields tenants.now) ≤ 5624 }
-        ensures { held self.new ≡ held self.old ++ tenant_fields tenants.now }
-    {
-        self.ranked(&tenants.ranked);
-        self.seated(&tenants.seated);
-        self.tables(&tenants.tables);
+impl Row for RankedTenant {
+    ghost kind = { RankedKind };
+
+    ghost Said = { RankedRule };
+
+    ghost said = { rank_rule };
+
+    ghost content = { ranked_content };
+
+    fn put(&self, sheet: &mut Encoded) {
+        sheet.field(Kind::Ranked, &[self.cap()], self.list().as_slice());
+    }
+}
+
+impl Row for SeatedTenant {
+    ghost kind = { SeatedKind };
+
+    ghost Said = { SeatedRule };
+
+    ghost said = { seat_rule };
+
+    ghost content = { seated_content };
+
+    fn put(&self, sheet: &mut Encoded) {
+        sheet.field(Kind::Seated, &all_caps(self), self.list().as_slice());
+    }
+}
+
+impl Row for TableTenant {
+    ghost kind = { TableKind };
+
+    ghost Said = { TableRule };
+
+    ghost said = { table_rule };
+
+    ghost content = { table_content };
+
+    fn put(&self, sheet: &mut Encoded) {
+        sheet.field(Kind::Table, self.workers().as_slice(), self.entries());
     }
 }
 
@@ -152,15 +191,26 @@ fn all_caps(tenant: &SeatedTenant) -> [u8; 9]
     caps
 }
 
-/// The bytes of the sheet that these parts make.
-pub(crate) fn encoded(lists: &Lists, tenants: &Tenants, quarantine: &Ranking<64>) -> Encoded
-    requires { well_formed (text_of lists.now tenants.now quarantine.now) ≡ true }
-    ensures { held result ≡ encode (text_of lists.now tenants.now quarantine.now) }
-{
-    let mut sheet = Encoded::empty();
-    sheet.counts(lists, tenants);
-    sheet.workers(lists, tenants.seated.classes());
-    sheet.tenants(tenants);
-    sheet.field(Kind::Quarantine, quarantine.as_slice(), &[]);
-    sheet
+impl Sheet {
+    /// The bytes of the sheet.
+    pub(crate) fn encoded(&self) -> Encoded
+        ensures { held result ≡ encode (text self.now) }
+    {
+        let workers = Workers {
+            lists: &self.lists,
+            classes: self.tenants.seated.classes(),
+        };
+        let mut sheet = Encoded::empty();
+        sheet.field(
+            Kind::Counts,
+            &[self.lists.workers()],
+            &[self.lists.tenants()],
+        );
+        sheet.rows(&workers);
+        sheet.rows(&self.tenants.ranked);
+        sheet.rows(&self.tenants.seated);
+        sheet.rows(&self.tenants.tables);
+        sheet.field(Kind::Quarantine, self.quarantine.as_slice(), &[]);
+        sheet
+    }
 }

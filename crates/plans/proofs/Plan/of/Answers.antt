@@ -12,14 +12,14 @@ use Rattle.matching.specs.Stable.{TenantBest}
 use Rattle.policy.specs.Choice.{Policy}
 use Rattle.policy.specs.declared.combined.Pair.{Pair}
 use Rattle.policy.specs.declared.combined.Quarantine.{Quarantine}
-use Rattle.policy.specs.declared.ranked.Ranked.{Ranked}
-use Rattle.policy.specs.declared.seated.Seated.{Seated}
-use Rattle.policy.specs.declared.table.Table.{Table}
+use Rattle.policy.specs.Ranks.{Ranked}
+use Rattle.policy.specs.Seats.{Seated}
+use Rattle.policy.specs.Entries.{Table}
 use Rattle.runs.specs.Calls.{settled_list}
 use Rattle.sheet.specs.Says.{text, market_said, policy_of}
 use Rattle.board.specs.Shown.{state}
-use Rattle.plans.specs.Outcomes.{PlanText, day_of, plan_for}
-use Rattle.plans.proofs.Planned.{day_is}
+use Rattle.plans.specs.Plans.{PlanText, day_of, plan_for}
+use Rattle.plans.proofs.Day.{day_is}
 use Rattle.plans.proofs.Plan.of.Goals as goal
 
 same_plan : (m : Market) (C : Policy) (workers rounds : ℕ) (settled : List ℕ) (events : List Event) (next : ℕ) → workers ≡ m.workers → rounds ≡ settled_rounds m C →

@@ -1,21 +1,12 @@
--- One number more, and the end; and what the test tells of each place.
-use Rattle.std.proofs.Common.{sym, ◌∙◌}
-use Rattle.std.proofs.lemmas.Bool.{false≢true}
-use Rattle.fleet.proofs.Different.{under_here, under_more, under_end}
-use Rattle.policy.proofs.Bounds.{under_at}
+-- The test of each number is the test of all.
+use Rattle.std.proofs.Common.{ltb, rules, tests, ◌∙◌}
+use Rattle.std.proofs.lemmas.Iterator.{YieldsList-from_slice}
+use Rattle.std.proofs.lemmas.Iterator.Search.{all_from_yields_List}
+use Rattle.policy.proofs.Bounds.{under_all}
 use Rattle.policy.proofs.seated_policy.all_below.Goals as goal
 
-pub returns-then-number-bound : goal.returns-then-number-bound
-returns-then-number-bound c = record {
-  test = sym (c.loop-number.invariant ∙ under_here c.args.bound c.args.numbers.now c.loop-number.number-index c.loop-number-test.true c.if-number-bound.true);
-  each = λ e. absurd (false≢true e);
-}
-
-pub loop-number-preserved : goal.loop-number-preserved
-loop-number-preserved c =
-    c.loop-number.invariant ∙ under_more c.args.bound c.args.numbers.now c.loop-number.number-index c.loop-number-test.true c.if-number-bound.false
-
-pub returns : goal.returns
-returns c =
-    let test = c.loop-number.invariant ∙ under_end c.args.bound c.args.numbers.now c.loop-number.number-index c.loop-number-test.false in
-    record { test = sym test; each = λ e i. under_at c.args.bound c.args.numbers.now c.requires test i }
+pub returns-clause-test : goal.returns-clause-test
+returns-clause-test c =
+    let n = c.args.bound in
+    let l = c.args.numbers.now in
+    all_from_yields_List (λ u. ltb u n) _ _ _ c.all.ensures.ran (YieldsList-from_slice l cc) (λ x b q k. search (rules, tests)) ∙ under_all n l

@@ -1,8 +1,8 @@
--- The index of the workers from this place on.
-use Rattle.std.proofs.Common.{◌≡◌, drop}
+-- The index of the workers before this place.
+use Rattle.std.proofs.Common.{◌≡◌, take}
 use Rattle.fleet.specs.Members.{members}
 use Rattle.policy.specs.Tables.{index_of}
 use Rattle.policy.proofs.table_policy.index_of.Given as goal
 
 abbrev pub invariant-loop-place : goal.invariant-loop-place
-invariant-loop-place l = l.index ≡ index_of (drop l.place l.workers) (members l.of)
+invariant-loop-place l = l.index ≡ index_of (take l.place l.workers) (members l.of)

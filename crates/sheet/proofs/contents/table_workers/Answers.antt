@@ -1,5 +1,5 @@
 -- A content longer than 264 is no table's, and a table has no more workers than numbers.
-use Rattle.std.proofs.Common.{◌≡◌, ℕ, ◌<◌, Some, None, Option, sym, refl, arith}
+use Rattle.std.proofs.Common.{◌≡◌, ℕ, ◌<◌, Some, None, Option, sym, refl, arith, rules, ◌∙◌}
 use native.Mathlib.Nat.{pow-le-pow_right}
 use Rattle.sheet.specs.Fields.{table_workers}
 use Rattle.sheet.proofs.TableSizes.{table_found}
@@ -12,10 +12,14 @@ none_long len h = go (table_workers len) refl
     go None e = sym e
     go (Some n) e = let found = table_found len n e in absurd (omega (arith, pow-le-pow_right {n = 2} (omega arith) {i = n} {j = 8} found.0))
 
-pub returns-then-len-gt264 : goal.returns-then-len-gt264
-returns-then-len-gt264 c = record { value = none_long c.args.len c.if-len-gt264.true; within = omega arith }
+pub returns-in_err-ok-clause-value : goal.returns-in_err-ok-clause-value
+returns-in_err-ok-clause-value c =
+    let long : 264 < c.args.len = search rules in
+    let none : c.from_residual.result ≡ None = search rules in
+    none ∙ none_long c.args.len long
 
-pub returns-in-Some : goal.returns-in-Some
-returns-in-Some c =
-    let found = table_found c.args.len c.in-Some.workers (sym c.in-Some.ensures) in
-    record { value = c.in-Some.ensures; within = omega arith }
+pub returns-clause-within : goal.returns-clause-within
+returns-clause-within c =
+    let told : Some c.in_ok-workers.workers ≡ table_workers c.args.len = search rules in
+    let found = table_found c.args.len c.in_ok-workers.workers (sym told) in
+    omega arith

@@ -1,5 +1,5 @@
 -- The counts, the workers and the tenants are read, and the first fault is the sheet's.
-use Rattle.std.proofs.Common.{ℕ, List, get_or, sym, refl, ap, ◌∙◌, arith}
+use Rattle.std.proofs.Common.{ℕ, List, sym, refl, ap, ◌∙◌}
 use Rattle.std.proofs.lemmas.Result.{err_from_is_err_and}
 use Rattle.fleet.specs.Lists.{market}
 use Rattle.sheet.specs.Framing.{input}
@@ -8,8 +8,8 @@ use Rattle.sheet.specs.Reading.{size_due, tenants_text, crew_text, after_tenants
 use Rattle.sheet.proofs.Whole.{size_fault, read_to_quarantine}
 use Rattle.sheet.proofs.reading.read_people.Goals as goal
 
-pub returns : goal.returns
-returns c =
+pub returns-clause-value : goal.returns-clause-value
+returns-clause-value c =
     let reader = c.args.reader.now in
     let bytes = input reader in
     let size = c.in_ok-size.size in
@@ -22,17 +22,11 @@ returns c =
     (record { place = c.read_workers.new.reader.place; lowest = 3; text = crew_text (market lists) classes lists.workers }) (tenants_text rows tenants) place
     refl c.requires c.in_ok-size.ensures.value c.in_ok-size.ensures.input c.in_ok-size.ensures.place c.in_ok-lists.ensures.value
     c.in_ok-lists.ensures.input (c.in_ok-tenants.ensures.value rows) in
-    record {
-      value = whole ∙ ap (λ (k : List ℕ). after_tenants bytes size (tenants_text (rows_of (market lists) k lists.workers) tenants) place) (sym c.in_ok-tenants.ensures.classes);
-      input = c.in_ok-tenants.ensures.input ∙ c.in_ok-lists.ensures.input ∙ c.in_ok-size.ensures.input;
-      few = c.in_ok-size.ensures.range.1;
-      idle = λ w h. ap (λ (k : List ℕ). get_or k w 0) c.in_ok-tenants.ensures.classes ∙ c.in_ok-lists.ensures.idle w (omega (arith, c.in_ok-lists.ensures.counts.0));
-      counts = c.in_ok-lists.ensures.counts.1 ∙ sym c.in_ok-tenants.ensures.counts;
-    }
+    whole ∙ ap (λ (k : List ℕ). after_tenants bytes size (tenants_text (rows_of (market lists) k lists.workers) tenants) place) (sym c.in_ok-tenants.ensures.classes)
 
-pub returns-in_err-size : goal.returns-in_err-size
-returns-in_err-size c =
+pub returns-in_err-size-clause-value : goal.returns-in_err-size-clause-value
+returns-in_err-size-clause-value c =
     let reader = c.args.reader.now in
     let p = err_from_is_err_and c.from_residual.result c.from_residual.ensures.1 in
     let due = ap (λ (at : ℕ). size_due (input reader) at) (sym c.requires) ∙ sym c.in_err-size.ensures.value in
-    rw (p.1, p.2) (record { value = size_fault (input reader) _ due; input = c.in_err-size.ensures.input; few = tt; idle = tt; counts = tt })
+    rw (p.1, p.2) (size_fault (input reader) _ due)

@@ -8,8 +8,8 @@ use Rattle.sheet.specs.Reading.{made_of}
 use Rattle.sheet.proofs.DueRows.{list_wider, quarantine_good}
 use Rattle.sheet.proofs.reading.read_quarantine.Goals as goal
 
-pub returns : goal.returns
-returns c =
+pub returns-clause-value : goal.returns-clause-value
+returns-clause-value c =
     let size = c.args.size in
     let reader = c.args.reader.now in
     let due = c.in_ok-field.ensures in
@@ -17,4 +17,4 @@ returns c =
     let good = quarantine_good size (input reader) reader.place reader.octets field c.requires (sym due.value) in
     let fine = list_wider size.workers 64 field.content c.requires good in
     let list : listed c.ranking.result ≡ field.content = c.ranking.ensures (ap (is_list 64) c.content-content.ensures ∙ fine) ∙ c.content-content.ensures in
-    record { value = ap (λ (l : List ℕ). Ok l) list ∙ ap (made_of (λ (l : List ℕ). l)) due.value; place = due.place; input = due.input }
+    ap (λ (l : List ℕ). Ok l) list ∙ ap (made_of (λ (l : List ℕ). l)) due.value

@@ -8,49 +8,35 @@ use Rattle.sheet.specs.Reading.{read_tenants, tenants_text, text_and_place}
 use Rattle.sheet.proofs.TenantSteps.{tenants_more, tenant_cut, tenant_fault, one_more, tenant_due}
 use Rattle.sheet.proofs.reading.read_tenants.Goals as goal
 
-pub add-requires : goal.add-requires
-add-requires c =
+pub add-requires-clause-good : goal.add-requires-clause-good
+add-requires-clause-good c =
     let reader = c.loop-number.reader in
     let due = c.in_ok-field.ensures in
-    let field = field_of c.in_ok-field.field in
-    let known = tenant_due c.args.size (input reader) reader.place c.loop-number.lowest reader.octets (omega arith) field (sym due.value) in
-    record { good = known.1; room = (omega (arith, c.loop-number.invariant.2), (omega (arith, c.loop-number.invariant.2), omega (arith, c.loop-number.invariant.2))); fits = due.fits }
+    (tenant_due c.args.size (input reader) reader.place c.loop-number.lowest reader.octets (omega arith) (field_of c.in_ok-field.field) (sym due.value)).1
 
-pub returns-in_err-field : goal.returns-in_err-field
-returns-in_err-field c =
+pub returns-in_err-field-clause-value : goal.returns-in_err-field-clause-value
+returns-in_err-field-clause-value c =
     let size = c.args.size in
     let bytes = input c.args.reader.now in
     let place = c.loop-number.reader.place in
     let before = c.loop-number.invariant in
-    let read = c.in_err-field.ensures in
-    let due = ap (λ (b : List ℕ). field_due (NextTenant c.loop-number.lowest) size b place) (sym before.0) ∙ sym read.value in
+    let due = ap (λ (b : List ℕ). field_due (NextTenant c.loop-number.lowest) size b place) (sym before.0) ∙ sym c.in_err-field.ensures.value in
     let p = err_from_is_err_and c.from_residual.result c.from_residual.ensures.1 in
-    rw (p.1, p.2) (record {
-      value = λ rows.
-          ap text_and_place (sym (before.3 rows ∙ tenant_cut size.tenants c.loop-number.number size bytes (record { place = place; lowest = c.loop-number.lowest; text = tenants_text rows c.loop-number.tenants }) _ (omega arith) due));
-      input = read.input ∙ before.0;
-      classes = tt;
-      counts = tt;
-    })
+    rw (p.1, p.2) (λ rows.
+    ap text_and_place (sym (before.3 rows ∙ tenant_cut size.tenants c.loop-number.number size bytes (record { place = place; lowest = c.loop-number.lowest; text = tenants_text rows c.loop-number.tenants }) _ (omega arith) due)))
 
-pub returns-in_err-add : goal.returns-in_err-add
-returns-in_err-add c =
+pub returns-in_err-add-clause-value : goal.returns-in_err-add-clause-value
+returns-in_err-add-clause-value c =
     let size = c.args.size in
     let bytes = input c.args.reader.now in
     let place = c.loop-number.reader.place in
     let before = c.loop-number.invariant in
-    let read = c.in_ok-field.ensures in
     let field = field_of c.in_ok-field.field in
-    let due = ap (λ (b : List ℕ). field_due (NextTenant c.loop-number.lowest) size b place) (sym before.0) ∙ sym read.value in
+    let due = ap (λ (b : List ℕ). field_due (NextTenant c.loop-number.lowest) size b place) (sym before.0) ∙ sym c.in_ok-field.ensures.value in
     let p = err_from_is_err_and c.from_residual-in_err-add.result c.from_residual-in_err-add.ensures.1 in
-    rw (p.1, p.2) (record {
-      value = λ rows.
-          ap text_and_place (sym (before.3 rows ∙ tenant_fault size.tenants c.loop-number.number size bytes (record { place = place; lowest = c.loop-number.lowest; text = tenants_text rows c.loop-number.tenants }) field _ (omega arith) due
-          (sym (c.in_err-add.ensures.text rows))));
-      input = read.input ∙ before.0;
-      classes = tt;
-      counts = tt;
-    })
+    rw (p.1, p.2) (λ rows.
+    ap text_and_place (sym (before.3 rows ∙ tenant_fault size.tenants c.loop-number.number size bytes (record { place = place; lowest = c.loop-number.lowest; text = tenants_text rows c.loop-number.tenants }) field _ (omega arith) due
+    (sym (c.in_err-add.ensures.text rows)))))
 
 pub loop-number-preserved : goal.loop-number-preserved
 loop-number-preserved c =
@@ -74,5 +60,5 @@ loop-number-preserved c =
       λ rows.
           before.3 rows
           ∙ tenants_more n t size bytes (record { place = place; lowest = c.loop-number.lowest; text = tenants_text rows c.loop-number.tenants }) field (tenants_text rows c.add.new.self) (omega arith) due (sym (added.text rows))
-          ∙ ap₂ (λ (p k : ℕ). read_tenants (n - (t + 1)) size bytes (record { place = p; lowest = k; text = tenants_text rows c.add.new.self })) (sym next) (sym c.tag-lowest.ensures),
+          ∙ ap₂ (λ (p k : ℕ). read_tenants (n - (t + 1)) size bytes (record { place = p; lowest = k; text = tenants_text rows c.add.new.self })) (sym next) (grind (arith, c.kind.ensures)),
     )

@@ -11,7 +11,7 @@ use Rattle.sheet.proofs.reading.read_tenants.Given as goal
 abbrev pub invariant-loop-number : goal.invariant-loop-number
 invariant-loop-number l =
     (input l.reader ≡ input l.initial.reader)
-    × (l.tenants.seated.classes ≡ l.initial.tenants.seated.classes)
+    × (l.tenants.seated.common.classes ≡ l.initial.tenants.seated.common.classes)
     × (length (ranks l.tenants.ranked) + length (seats l.tenants.seated) + length (tables l.tenants.tables) ≡ l.number)
     × ((rows : List WorkerRow) →
     read_tenants l.size.tenants l.size (input l.initial.reader) (record { place = l.initial.reader.place; lowest = 3; text = rows_text rows })

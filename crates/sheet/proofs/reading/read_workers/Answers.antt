@@ -41,17 +41,16 @@ loop-worker-preserved c =
       λ v h. let other : v ≢ w = omega arith in get_or-set_other classes w v row.class 0 other ∙ before.6 v (omega arith),
     )
 
-pub returns-in_err-class : goal.returns-in_err-class
-returns-in_err-class c =
+pub returns-in_err-class-clause-value : goal.returns-in_err-class-clause-value
+returns-in_err-class-clause-value c =
     let w = c.loop-worker.worker in
     let bytes = input c.args.reader.now in
     let place = c.loop-worker.reader.place in
     let before = c.loop-worker.invariant in
-    let read = c.in_err-class.ensures in
-    let due = ap (λ (b : List ℕ). worker_due c.args.size b place) (sym before.0) ∙ sym read.value in
+    let due = ap (λ (b : List ℕ). worker_due c.args.size b place) (sym before.0) ∙ sym c.in_err-class.ensures.value in
     let whole = before.5 ∙ workers_fault c.args.size.workers w c.args.size bytes (record { place = place; lowest = 3; text = crew_text (market c.loop-worker.lists) c.loop-worker.classes w }) _ (omega arith) due in
     let p = err_from_is_err_and c.from_residual.result c.from_residual.ensures.1 in
-    rw (p.1, p.2) (record { value = sym whole; input = read.input ∙ before.0; classes = tt; idle = tt; counts = tt })
+    rw (p.1, p.2) (sym whole)
 
 pub loop-worker-init : goal.loop-worker-init
 loop-worker-init c = (refl, refl, refl, search rules, search rules, search rules, λ w h. zeros 64 w)

@@ -14,4 +14,4 @@ pub returns : goal.returns
 returns c =
     let s = c.args.sheet.now in
     let l = s.lists in
-    same_market l.workers _ l.tenants _ (market l).list _ (sym (rows_length (market l) s.tenants.seated.classes l.workers)) s.counted (fun_ext (list_said l s.tenants.seated.classes))
+    same_market l.workers _ l.tenants _ (market l).list _ (sym (rows_length (market l) s.tenants.seated.common.classes l.workers)) s.counted (fun_ext (list_said l s.tenants.seated.common.classes))

@@ -2,7 +2,7 @@
 use Rattle.std.proofs.Common.{◌≡◌, ℕ, ◌≤◌, true, List, [], ◌∷◌, get_or, replicate, Ok, Result, sym, refl, ap, ◌∙◌, ap₂}
 use Rattle.std.proofs.lemmas.Bool.{le-leb}
 use Rattle.fleet.specs.Market.{Market}
-use Rattle.fleet.specs.Lists.{market, no_lists}
+use Rattle.fleet.specs.Lists.{market, no_lists, new_answer}
 use Rattle.fleet.specs.Rankings.{listed}
 use Rattle.fleet.specs.declared.lists.Lists.{Lists}
 use Rattle.fleet.specs.declared.ranking.Ranking.{Ranking}
@@ -19,7 +19,7 @@ use Rattle.sheet.proofs.Lists.{zeros}
 use Rattle.sheet.proofs.sheets.one_worker.Goals as goal
 
 module _ (l : Lists) (t : Tenants) (q : Ranking 64) (n : ℕ) (none : market l ≡ no_lists 1 1) (one : ranks t.ranked ≡ record { «cap» = n; list = [] } ∷ [])
-    (seated : seats t.seated ≡ []) (written : tables t.tables ≡ []) (classes : t.seated.classes ≡ replicate 64 0) (free : listed q ≡ []) where
+    (seated : seats t.seated ≡ []) (written : tables t.tables ≡ []) (classes : t.seated.common.classes ≡ replicate 64 0) (free : listed q ≡ []) where
   said : text_of l t q ≡ one_worker_text n
   said =
       ap₂ (λ (m : Market) (c : List ℕ). record { workers = rows_of m c m.workers; ranked = ranks t.ranked; seated = seats t.seated; tables = tables t.tables; quarantine = listed q }) none classes
@@ -32,7 +32,7 @@ module _ (l : Lists) (t : Tenants) (q : Ranking 64) (n : ℕ) (none : market l �
   formed : n ≤ 64 → well_formed (text_of l t q) ≡ true
   formed h = ap well_formed said ∙ rw (le-leb n 64 h) refl
 
-idle : (t : Tenants) {n : ℕ} → t.seated.classes ≡ replicate 64 0 → (w : ℕ) → n ≤ w → get_or t.seated.classes w 0 ≡ 0
+idle : (t : Tenants) {n : ℕ} → t.seated.common.classes ≡ replicate 64 0 → (w : ℕ) → n ≤ w → get_or t.seated.common.classes w 0 ≡ 0
 idle t e w h = ap (λ (l : List ℕ). get_or l w 0) e ∙ zeros 64 w
 
 made_lists : (m k : Market) → ◌≡◌ {A = Result Market ℕ} (Ok m) (Ok k) → m ≡ k
@@ -40,13 +40,13 @@ made_lists m k e = cc
 
 pub invariant_of-result : goal.invariant_of-result
 invariant_of-result c =
-    let l = c.in-Ok.lists in
+    let l = c.unwrap.result in
     let t = c.one_tenant.result in
     let told = c.one_tenant.ensures in
-    let none = made_lists (market l) (no_lists 1 1) c.in-Ok.ensures in record { counted = counted l t c.empty.result c.args.«cap» none told.ranked told.others.0 told.others.1 told.classes c.empty.ensures; idle = idle t told.classes; formed = formed l t c.empty.result c.args.«cap» none told.ranked told.others.0 told.others.1 told.classes c.empty.ensures c.requires }
+    let none = made_lists (market l) (no_lists 1 1) (sym (ap new_answer c.unwrap.ensures) ∙ c.new.ensures) in record { counted = counted l t c.empty.result c.args.«cap» none told.ranked told.others.0 told.others.1 told.classes c.empty.ensures; idle = idle t told.classes; formed = formed l t c.empty.result c.args.«cap» none told.ranked told.others.0 told.others.1 told.classes c.empty.ensures c.requires }
 
 pub returns : goal.returns
 returns c =
-    let l = c.in-Ok.lists in
+    let l = c.unwrap.result in
     let told = c.one_tenant.ensures in
-    said l c.one_tenant.result c.empty.result c.args.«cap» (made_lists (market l) (no_lists 1 1) c.in-Ok.ensures) told.ranked told.others.0 told.others.1 told.classes c.empty.ensures
+    said l c.one_tenant.result c.empty.result c.args.«cap» (made_lists (market l) (no_lists 1 1) (sym (ap new_answer c.unwrap.ensures) ∙ c.new.ensures)) told.ranked told.others.0 told.others.1 told.classes c.empty.ensures

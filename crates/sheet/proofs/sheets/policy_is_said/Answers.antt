@@ -20,4 +20,4 @@ returns c =
     let t = s.tenants in
     ap (λ (Q : Set). policy_of Q t.ranked t.seated t.tables) c.requires
     ∙ ap (λ (C : Policy). quarantined (among (listed s.quarantine)) (joined (length (ranks t.ranked)) (ranked_policy (ranks t.ranked)) (joined (length (seats t.seated)) C (table_policy (tables t.tables)))))
-    (seated_said t.seated.classes _ (seats t.seated) (class_said (market s.lists) t.seated.classes s.lists.workers s.idle))
+    (seated_said t.seated.common.classes _ (seats t.seated) (class_said (market s.lists) t.seated.common.classes s.lists.workers s.idle))

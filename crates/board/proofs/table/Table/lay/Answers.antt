@@ -1,5 +1,5 @@
 -- What is laid behind the standing moves changes none of them, and can be drained.
-use Rattle.std.proofs.Common.{◌≡◌, ℕ, ◌+◌, ◌≤◌, true, List, ◌++◌, length, take, drop, Option, sym, refl, ap, ◌∙◌, subst, ap₂, arith, length-take}
+use Rattle.std.proofs.Common.{◌≡◌, ℕ, ◌+◌, ◌≤◌, true, List, ◌++◌, length, take, drop, None, Option, sym, refl, ap, ◌∙◌, subst, ap₂, arith, length-take}
 use Rattle.fleet.specs.Lists.{market}
 use Rattle.fleet.specs.declared.Move.{Move}
 use Rattle.matching.specs.Entries.{place}
@@ -8,8 +8,7 @@ use Rattle.rotation.specs.Listing.{listing}
 use Rattle.runs.specs.States as States
 use Rattle.runs.specs.States.{Rotation, State}
 use Rattle.runs.specs.Descent.{descends, leads, led_to}
-use Rattle.board.specs.declared.drain.Drain.{Drain}
-use Rattle.board.specs.declared.drain.Drain.TheVariants.{Shut}
+use Rattle.board.specs.declared.drain.Drained.{Drained}
 use Rattle.board.specs.declared.table.Table.{Table}
 use Rattle.board.specs.Pieces.{piece, cut, opened}
 use Rattle.board.specs.Shown.{drain_in, standing_in, state}
@@ -21,7 +20,7 @@ few : (r : MoveList) → length (listing r) ≤ 64
 few r = omega (arith, length-take r.len r.moves, r.short, r.full)
 
 -- the moves ms after the rotation r was laid into them, at a table where nothing is drained
-module _ (t : Table) (r : Rotation) (ms : List Move) (shut : t.drain ≡ Shut) (e : ms ≡ take t.len t.moves ++ (r ++ drop (t.len + length r) t.moves)) where
+module _ (t : Table) (r : Rotation) (ms : List Move) (shut : t.drain ≡ None) (e : ms ≡ take t.len t.moves ++ (r ++ drop (t.len + length r) t.moves)) where
   inside : t.len ≤ length t.moves
   inside = omega (arith, t.fits, t.rooms)
 
@@ -33,8 +32,8 @@ module _ (t : Table) (r : Rotation) (ms : List Move) (shut : t.drain ≡ Shut) (
 
   lead : leads (market t.lists) t.settled.places (cut (take t.count t.sizes) ms ++ opened t.drain t.len ms) ≡ true
   lead =
-      ap₂ (λ (rs : List Rotation) (d : Drain). leads (market t.lists) t.settled.places (rs ++ opened d t.len ms)) stay shut ∙
-      subst (λ (d : Drain). leads (market t.lists) t.settled.places (standing_in t ++ opened d t.len t.moves) ≡ true) shut t.leading
+      ap₂ (λ (rs : List Rotation) (d : Option Drained). leads (market t.lists) t.settled.places (rs ++ opened d t.len ms)) stay shut ∙
+      subst (λ (d : Option Drained). leads (market t.lists) t.settled.places (standing_in t ++ opened d t.len t.moves) ≡ true) shut t.leading
 
   reach : (w : ℕ) → place (led_to t.settled.places (cut (take t.count t.sizes) ms)) w ≡ place t.current.places w
   reach w = ap (λ (rs : List Rotation). place (led_to t.settled.places rs) w) stay ∙ t.reached w
@@ -42,7 +41,7 @@ module _ (t : Table) (r : Rotation) (ms : List Move) (shut : t.drain ≡ Shut) (
   shown : (let new : State = record { placement = t.current.places; standing = cut (take t.count t.sizes) ms; drain = drain_in t.drain t.len ms; next = t.next } in new) ≡ state t
   shown =
       ap₂ (λ (rs : List Rotation) (d : Option States.Drain). (let new : State = record { placement = t.current.places; standing = rs; drain = d; next = t.next } in new)) stay
-      (ap (λ (d : Drain). drain_in d t.len ms) shut ∙ sym (ap (λ (d : Drain). drain_in d t.len t.moves) shut))
+      (ap (λ (d : Option Drained). drain_in d t.len ms) shut ∙ sym (ap (λ (d : Option Drained). drain_in d t.len t.moves) shut))
 
 pub put-requires : goal.put-requires
 put-requires c =
@@ -72,7 +71,7 @@ returns c =
     let size : length r ≡ length all = ap length whole in
     let laid-there : piece t.len (length r) ms ≡ r = there t r ms c.requires.shut e in
     record {
-      state = shown t r ms c.requires.shut e;
+      same = record { shows = shown t r ms c.requires.shut e; keeps = record { lists = refl; settled = refl } };
       there = laid-there ∙ whole;
       ready = record {
         shut = c.requires.shut;
@@ -82,5 +81,4 @@ returns c =
         few = omega (arith, size, few c.args.rotation.now);
         down = ap (λ (q : Rotation). descends (market t.lists) (place t.current.places) 0 q) (laid-there ∙ whole) ∙ c.requires.down;
       };
-      keeps = record { lists = refl; settled = refl };
     }

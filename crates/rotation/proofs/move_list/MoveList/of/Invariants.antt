@@ -3,5 +3,5 @@ use Rattle.std.proofs.Common.{◌≡◌, take}
 use Rattle.rotation.specs.Listing.{listing}
 use Rattle.rotation.proofs.move_list.MoveList.of.Given as goal
 
-abbrev pub invariant-loop-i : goal.invariant-loop-i
-invariant-loop-i l = (listing l.list ≡ take l.i l.first) × (l.list.len ≡ l.i)
+abbrev pub invariant-loop-step : goal.invariant-loop-step
+invariant-loop-step l = record { listed : listing l.list ≡ take l.step-index l.step-items; long : l.list.len ≡ l.step-index }

@@ -4,5 +4,5 @@ use Rattle.rotation.specs.Moves.{reversed}
 use Rattle.rotation.specs.Listing.{listing}
 use Rattle.rotation.proofs.move_list.MoveList.reversed.Given as goal
 
-abbrev pub invariant-loop-i : goal.invariant-loop-i
-invariant-loop-i l = (listing l.back ≡ reversed (take l.i l.self.moves)) × (l.back.len ≡ l.i)
+abbrev pub invariant-loop-step : goal.invariant-loop-step
+invariant-loop-step l = record { listed : listing l.back ≡ reversed (take l.step-index l.step-items); long : l.back.len ≡ l.step-index }
