@@ -26,6 +26,7 @@ impl Seen {
     pub(crate) fn of(heap: Global, board: &SheetBoard) -> anyhow::Result<Seen> {
         let count = board.standing();
         let mut standing = Vec::new(heap);
+        // Kept: by number, as a board hands out its rotations.
         for index in 0..count {
             if let Some(rotation) = board.standing_rotation(index) {
                 standing.push(moves_of(heap, &rotation)?)?;

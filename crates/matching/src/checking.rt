@@ -79,6 +79,7 @@ fn lowest_with<F: Fn(u8) -> Option<u8>>(count: u8, found: F) -> Option<(u8, u8)>
     requires { (n : ℕ) → n < count → F.pre found n }
     ensures { FindsLowest (F.post found) count result }
 {
+    // Kept: a loop, since `find_map` would ask that `found` may be called at any number, and not only at those below the count.
     for n in 0..count {
         if let Some(a) = found(n) {
             return Some((n, a));

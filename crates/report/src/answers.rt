@@ -74,6 +74,7 @@ fn write_rotations<W: fmt::Write>(f: &mut fmt::Formatter<W>, sheet: &Sheet) -> f
     };
     // Kept: the line end goes before each rotation but the first, as what is printed ends with none.
     let mut line_end = "";
+    // Kept: by number, since it is a worker's number that is asked about.
     for worker in 0..lists.workers() {
         if let Some(rotation) = rotation_of(&situation, worker) {
             let moves = rotation.as_slice();

@@ -57,7 +57,7 @@ impl MoveList {
         ensures { listing result ≡ carried (place from.now.places) (place to.now.places) (members workers) 64 }
     {
         let mut moves = MoveList::empty();
-        // By all numbers, as the moves are defined, and not by the members alone.
+        // Kept: by all numbers, as the moves are defined, and not by the members alone.
         for worker in 0..64u8 {
             moves.carry(from, to, workers, worker);
         }

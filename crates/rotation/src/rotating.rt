@@ -37,7 +37,7 @@ fn lowest_below<P: Policy>(situation: &Situation<'_, P>, count: u8) -> Option<u8
     ensures lowest { result ≡ lowest count (in_situation P.chosen situation.now on_rotation) }
     ensures best { count ≡ (market_in situation.now).workers → in_situation P.chosen situation.now Stable → (result ≡ None) ↔ in_situation P.chosen situation.now TenantBest }
 {
-    // A closure of `find` that walks would change the walker, and its contract would say nothing.
+    // Kept: a loop. A closure of `find` that walks would change the walker, and its contract would say nothing.
     let mut walker = Walker::new(situation);
     for worker in 0..count {
         if walker.walk(worker).is_some() {

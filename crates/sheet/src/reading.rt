@@ -138,6 +138,7 @@ fn read_tenants(
         tables: Table::empty(),
     };
     let mut lowest = 3;
+    // Kept: a count, since each tenant is read from where the one before has ended.
     for number in 0..size.tenants {
         let field = reader.field(Due::NextTenant { lowest }, size)?;
         lowest = field.kind() as u8;

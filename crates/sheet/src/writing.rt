@@ -63,6 +63,7 @@ impl Encoded {
         requires { length (held self.old) + length (fields R.kind (R.contents rows.now)) ≤ 5624 }
         ensures { held self.new ≡ held self.old ++ fields R.kind (R.contents rows.now) }
     {
+        // Kept: by number, since workers have no items to go over, only numbers.
         for number in 0..rows.rows() {
             rows.put(number, self);
         }
