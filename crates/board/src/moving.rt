@@ -25,7 +25,7 @@ fn write_down(log: &mut [Event; 1440], at: usize, slip: &[Event; 64], events: u8
 }
 
 impl<P: Policy> Board<P> {
-    // The lowest worker on a rotation.
+    // The lowest worker on a rotation. Kept: a situation of its own, as in `Board::rotation`.
     fn lowest(&self) -> Option<u8>
         ensures { result ≡ lowest_at (P.Policy.chosen self.now.policy) self.now.table }
     {

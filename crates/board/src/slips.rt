@@ -34,8 +34,8 @@ pub(crate) fn write_events(
     ensures slip { slip.new ≡ events number (kind_number kind) (listing moves.now) ++ drop (length (events number (kind_number kind) (listing moves.now))) slip.old }
 {
     let steps = moves.as_slice();
-    // Kept: the entries are set by place, since nothing is known afterwards of what an adapter of
-    // `iter_mut` wrote.
+    // Kept: the entries are set by place, since not all are, and nothing is known afterwards of what
+    // `zip` or `take` over `iter_mut` wrote.
     for (i, step) in steps.iter().enumerate() {
         slip[i] = event(number + i as u64, kind, *step);
     }

@@ -58,6 +58,7 @@ fn the_ring_turns_once(rt: HostRuntime) -> Result<(), Fail> {
     assert_eq!(rt; moved[0], event(2, 2, 0, 0, 1));
     assert_eq!(rt; moved[1], event(3, 2, 1, 1, 0));
     assert_eq!(rt; board.next_number(), 4);
+    // Kept: by number, the ring's three workers, and one that there is not.
     for worker in 0..4 {
         assert_eq!(rt; try_open(&mut board, worker), 40);
     }

@@ -45,7 +45,7 @@ pub(crate) fn spare() -> Result<(Lists, Ranked), Fail> {
     ))
 }
 
-/// An event of these numbers.
+/// An event of these numbers. Kept: the kind is a number, as some that are none are asked for.
 pub(crate) fn event(number: u64, kind: u8, worker: u8, from: u8, to: u8) -> Event {
     Event {
         number,

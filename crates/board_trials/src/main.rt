@@ -69,6 +69,7 @@ impl Trials {
     /// One case. Of every 128th call the whole state is printed.
     fn try_case(&mut self, rt: &HostRuntime, number: usize, line: &str) -> anyhow::Result<()> {
         println!(rt; "case {number}")?;
+        // Kept in each program of trials: what a line may have is theirs to say, and no library's.
         if line.as_bytes().iter().any(|byte| byte.is_ascii_uppercase()) {
             return Err(anyhow!("a capital letter"));
         }

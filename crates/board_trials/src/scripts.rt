@@ -19,6 +19,7 @@ fn board_of(bytes: &[u8], first: u64) -> anyhow::Result<(SheetBoard, u16)> {
 }
 
 /// A slip on which nothing is written.
+// Kept: no default, so that an entry that is filled by mistake is seen.
 fn empty_slip() -> [Event; 64] {
     let nothing = Event {
         number: u64::MAX,

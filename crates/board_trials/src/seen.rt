@@ -97,6 +97,7 @@ fn placed(places: &[u8]) -> usize {
 #[derive(Clone, Copy)]
 pub(crate) struct State<'a> {
     pub seen: &'a Seen,
+    // Kept: a flag alone, which says how much is printed.
     pub whole: bool,
 }
 

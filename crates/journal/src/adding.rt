@@ -8,6 +8,7 @@ use crate::events::{bytes_of, is_in_range};
 use crate::refusal::AddRefusal;
 use fleet::Event;
 
+// Kept: a lent buffer and how much of it is used, since nothing here takes memory; whoever owns the buffer keeps both.
 /// Adds an event behind the first `used` bytes of a buffer, and answers how many are used then: 15 more.
 /// An event with a number out of range is refused, then one for which fewer than 15 bytes are free; nothing is written then.
 pub fn add(buffer: &mut [u8], used: usize, event: Event) -> Result<usize, AddRefusal>

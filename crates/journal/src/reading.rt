@@ -21,6 +21,7 @@ fn event_in(field: Frame<'_>) -> Result<Event, JournalFault>
     ensures { result ≡ defined_event_in (part_of field.entry) }
 {
     let at = field.at;
+    // Kept: a journal has one tag, a number of its format, and an enum of one case would say no more.
     if field.tag != 7 {
         return Err(JournalFault::Tag { at });
     }

@@ -131,7 +131,8 @@ impl<P: Policy> Situation<'_, P> {
         }
     }
 
-    // The lowest of a tenant's workers that it does not choose out of them.
+    // The lowest of a tenant's workers that it does not choose out of them. Kept: a bound, since the
+    // staffs are those of 16 tenants.
     fn unchosen(&self, tenant: u8) -> Option<u8>
         requires { tenant < 16 }
         ensures { result ≡ lowest 64 (unchosen_at (choices P.chosen self.now) (placed self.now) tenant) }
@@ -152,7 +153,8 @@ impl<P: Policy> Situation<'_, P> {
         }
     }
 
-    // The first tenant on a worker's list with which it blocks.
+    // The first tenant on a worker's list with which it blocks. Kept: a worker below 64, as where a
+    // policy is asked.
     fn blocking(&self, worker: u8) -> Option<u8>
         requires { worker < 64 }
         ensures { result ≡ find (in_situation P.chosen self.now blocks worker) ((market_in self.now).list worker) }

@@ -52,7 +52,8 @@ impl<P: Policy> Situation<'_, P> {
         self.let_go(self.staffing.staff(tenant), tenant, worker)
     }
 
-    // Those of these workers that the tenant would not choose out of its own and the worker.
+    // Those of these workers that the tenant would not choose out of its own and the worker. Kept: a
+    // worker below 64, as where a policy is asked.
     fn let_go(&self, staff: WorkerSet, tenant: u8, worker: u8) -> WorkerSet
         requires { worker < 64 }
         ensures { members result ≡ minus (members staff) (choices P.chosen self.now tenant (insert (staff_at (placed self.now) tenant) worker)) }

@@ -19,6 +19,7 @@ impl TableFault {
     pub fn number(self) -> u8
         ensures { result ≡ fault_number self }
     {
+        // Kept: the cases hold values, and two share a number, so that they can have none of their own.
         match self {
             TableFault::Workers | TableFault::Entries => 12,
             TableFault::Outside { .. } => 20,

@@ -7,6 +7,8 @@ ghost use Rattle.policy.specs.Laws.{both, Idempotence, PathIndependence, Consist
 use crate::Policy;
 use fleet::WorkerSet;
 
+// Kept in the functions below: a policy, a tenant and sets side by side, since each asks for other sets, and a struct would be made for one call each.
+
 /// Chooses out of the chosen. Nothing changes: who was chosen is chosen again.
 pub fn choose_twice<P: Policy>(policy: &P, tenant: u8, of: WorkerSet) -> WorkerSet
     ensures same { members result ≡ P.Policy.chosen policy.now tenant (members of) }

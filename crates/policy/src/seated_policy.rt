@@ -14,6 +14,7 @@ use crate::seated::{Classes, Seated, SeatedTenant};
 use crate::tenant::Tenant;
 use fleet::{Ranking, WorkerSet};
 
+// Kept beside the test of rankings: it is asked of any numbers, and says the bound of each, which classes and caps need.
 /// Are all the numbers below the bound?
 fn all_below(bound: u8, numbers: &[u8]) -> bool
     requires { 0 < bound }

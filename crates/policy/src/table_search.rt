@@ -42,6 +42,7 @@ fn is_broken(law: TableLaw, entries: &[u8], whole: usize, part: usize) -> bool
     if !is_within(part, whole) {
         return false;
     }
+    // Kept: one match on the law, as each law is one test of the same two entries.
     match law {
         TableLaw::Substitutability => !is_within(chosen & part, of_part),
         TableLaw::Monotonicity => chosen.count_ones() < of_part.count_ones(),

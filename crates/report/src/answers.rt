@@ -60,6 +60,7 @@ fn write_verdict<W: fmt::Write>(
 }
 
 /// Writes the rotations of a sheet.
+// Kept in both: a farm lends the lists and the policy that stand in the function.
 fn write_rotations<W: fmt::Write>(f: &mut fmt::Formatter<W>, sheet: &Sheet) -> fmt::Result {
     let lists = sheet.lists();
     let policy = sheet.policy();

@@ -25,6 +25,7 @@ impl Settlement {
     {
         let lists = sheet.lists();
         let policy = sheet.policy();
+        // Kept: a farm lends the lists and the policy that stand here.
         let found = Farm {
             lists: &lists,
             policy: &policy,

@@ -28,7 +28,8 @@ impl<'a, P: Policy> Walker<'a, P> {
         }
     }
 
-    // A worker's successor, which is found once.
+    // A worker's successor, which is found once. Kept here and below: a worker below 64, by whom the
+    // arrays are read.
     fn successor(&mut self, worker: u8) -> Option<u8>
         requires { worker < 64 }
         ensures stays { self.new.situation ≡ self.old.situation }

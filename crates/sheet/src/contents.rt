@@ -15,6 +15,7 @@ impl Due {
     fn kind(self, tag: u8) -> Option<Kind>
         ensures { result ≡ kind_due self tag }
     {
+        // Kept: what is due is an enum that a reader's call takes, and this match says which kinds fit.
         let kind = Kind::try_from(tag).ok()?;
         match (self, kind) {
             (Due::First, Kind::Counts)
@@ -123,6 +124,7 @@ fn check_content(kind: Kind, size: Size, frame: Frame<'_>) -> Result<(), FieldFa
 
 impl<'a> Field<'a> {
     /// The field of this kind that a frame is.
+    // Kept: an arm for each tag, as a field has a case for each.
     fn new(kind: Kind, frame: Frame<'a>) -> Field<'a>
         ensures { field_of result ≡ record { kind = kind; at = frame.entry.at; content = frame.entry.content.now } }
     {

@@ -21,6 +21,7 @@ use crate::tenants::Tenants;
 use fleet::{Lists, Ranking};
 use policy::{Ranked, Seated, Table};
 
+// Kept: an arm for each tag in both, as a field has a case for each.
 impl<'a> Field<'a> {
     /// The content of the field.
     fn content(self) -> &'a [u8]
@@ -111,7 +112,7 @@ fn read_workers(reader: &mut Reader<'_>, size: Size) -> Result<(Lists, [u8; 64])
 {
     let mut classes = [0; 64];
     let mut lists = Lists::new(size.workers, size.tenants).unwrap();
-    // Kept: classes are set by number, since nothing is known afterwards of what an adapter of `iter_mut` wrote.
+    // Kept: classes are set by number, since not all are, and nothing is known afterwards of what `zip` or `take` over `iter_mut` wrote.
     for worker in 0..size.workers {
         let (class, list) = read_worker(reader, size)?;
         classes[worker as usize] = class;

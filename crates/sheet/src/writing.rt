@@ -105,6 +105,7 @@ impl Rows for Workers<'_> {
 
     fn put(&self, number: u8, sheet: &mut Encoded) {
         let list = self.lists.list(number);
+        // Kept: the class at the number by which rows are asked for.
         let class = self.classes[number as usize];
         sheet.field(Kind::Worker, &[class], list.as_slice());
     }

@@ -9,6 +9,7 @@ use std::io::{BufRead, BufReader};
 
 /// One case.
 fn try_case(rt: &HostRuntime, line: &str) -> anyhow::Result<()> {
+    // Kept in each program of trials: what a line may have is theirs to say, and no library's.
     if line.as_bytes().iter().any(|byte| byte.is_ascii_uppercase()) {
         return Err(anyhow!("a capital letter"));
     }
