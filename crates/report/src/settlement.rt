@@ -20,7 +20,7 @@ pub struct Settlement {
 
 impl Settlement {
     /// How a sheet settles.
-    pub fn of(sheet: &Sheet) -> Settlement
+    fn of(sheet: &Sheet) -> Settlement
         ensures { result ≡ settlement_of (text sheet.now) }
     {
         let lists = sheet.lists();
