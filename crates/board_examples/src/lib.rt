@@ -1,4 +1,4 @@
-// Examples of what boards, journals, settling and rotations do, as tests.
+// Examples of what boards, journals, settling, rotations, digits and plans do, as tests.
 #![tactic(auto)]
 
 #[cfg(test)]
@@ -9,3 +9,5 @@ mod given;
 mod journals;
 #[cfg(test)]
 mod placements;
+#[cfg(test)]
+mod printed;

@@ -9,17 +9,20 @@ mod journals;
 mod scripts;
 mod seen;
 
-use anyhow::{Context, anyhow};
+use anyhow::Context;
 use journals::{Written, print_journal};
 use plans::planned;
-use report::{Asked, Told};
+use report::{Asked, Told, bytes_of, check_digits};
 use scripts::Script;
 use std::io;
 use std::io::{BufRead, BufReader};
 
 /// A case of a sheet, and what is asked of it.
 fn try_sheet(rt: &HostRuntime, digits: &str, asked: &str) -> anyhow::Result<()> {
-    let bytes = hex::decode(rt.alloc(), digits)?;
+    let bytes = bytes_of(rt.alloc(), digits)?;
+    if asked != "rotations" {
+        check_digits(asked)?;
+    }
     let sheet = bytes.as_slice();
     Ok(println!(rt; "{}", Asked { sheet, asked })?)
 }
@@ -28,7 +31,7 @@ fn try_sheet(rt: &HostRuntime, digits: &str, asked: &str) -> anyhow::Result<()> 
 fn try_word(rt: &HostRuntime, written: &mut Written, word: &str, rest: &str) -> anyhow::Result<()> {
     match word {
         "journal" => {
-            let bytes = hex::decode(rt.alloc(), rest)?;
+            let bytes = bytes_of(rt.alloc(), rest)?;
             Ok(print_journal(rt, bytes.as_slice())?)
         }
         "room" => {
@@ -54,14 +57,14 @@ impl Trials {
         if word == "back" || word == "rewind" {
             return self.script.step(rt, word, "", whole);
         }
-        let bytes = hex::decode(rt.alloc(), word)?;
+        let bytes = bytes_of(rt.alloc(), word)?;
         Ok(println!(rt; "{}", Told(planned(bytes.as_slice())))?)
     }
 
     /// A board of a sheet and, behind a space, its first number.
     fn begin(&mut self, rt: &HostRuntime, rest: &str) -> anyhow::Result<()> {
         let (sheet, first) = rest.split_once(' ').context("no first number")?;
-        let bytes = hex::decode(rt.alloc(), sheet)?;
+        let bytes = bytes_of(rt.alloc(), sheet)?;
         self.script
             .begin(rt, bytes.as_slice(), first.parse::<u64>()?)
     }
@@ -69,10 +72,6 @@ impl Trials {
     /// One case. Of every 128th call the whole state is printed.
     fn try_case(&mut self, rt: &HostRuntime, number: usize, line: &str) -> anyhow::Result<()> {
         println!(rt; "case {number}")?;
-        // Kept in each program of trials: what a line may have is theirs to say, and no library's.
-        if line.as_bytes().iter().any(|byte| byte.is_ascii_uppercase()) {
-            return Err(anyhow!("a capital letter"));
-        }
         let whole = number % 128 == 0;
         let Some((word, rest)) = line.split_once(' ') else {
             return self.try_single(rt, line, whole);

@@ -14,7 +14,7 @@ const RING: &[u8] = b"\x01\x02\x00\x03\x02\
 
 /// A board of the sheet that bytes say, and the rounds that it took.
 fn board_of(bytes: &[u8], first: u64) -> anyhow::Result<(SheetBoard, u16)> {
-    let sheet = read_input(bytes)?;
+    let sheet = read_input(bytes).map_err(|_| anyhow!("no sheet"))?;
     Ok(Board::make(sheet.lists(), sheet.policy(), first))
 }
 

@@ -10,13 +10,15 @@ use std::fmt;
 /// A board of a sheet.
 pub type SheetBoard = Board<Quarantine<Pair<Ranked, Pair<Seated, Table>>>>;
 
-// Kept: the count is what the board says of itself, and is compared and printed beside the rotations that it hands out.
+// Kept: the count is what the board says of itself, and is compared and printed beside the rotations that it hands out. Their moves stand one behind the
+// other, with the size of each rotation beside them: a board may have 480 of them, and each would ask for memory of its own at every call.
 /// The placement, the standing rotations and how many there are, the drain, and the next number.
 #[derive(Drop, PartialEq)]
 pub(crate) struct Seen {
     placement: Placement,
     count: usize,
-    standing: Vec<Vec<Move>>,
+    standing: Vec<Move>,
+    sizes: Vec<usize>,
     drain: Option<(u64, Vec<Move>)>,
     next: u64,
 }
@@ -26,10 +28,12 @@ impl Seen {
     pub(crate) fn of(heap: Global, board: &SheetBoard) -> anyhow::Result<Seen> {
         let count = board.standing();
         let mut standing = Vec::new(heap);
+        let mut sizes = Vec::new(heap);
         // Kept: by number, as a board hands out its rotations.
         for index in 0..count {
             if let Some(rotation) = board.standing_rotation(index) {
-                standing.push(moves_of(heap, &rotation)?)?;
+                standing.extend_from_slice(rotation.as_slice())?;
+                sizes.push(rotation.as_slice().len())?;
             }
         }
         let drain = match board.drain() {
@@ -40,6 +44,7 @@ impl Seen {
             placement: board.placement(),
             count,
             standing,
+            sizes,
             drain,
             next: board.next_number(),
         })
@@ -111,8 +116,13 @@ impl fmt::Display for State<'_> {
         } else {
             count.saturating_sub(1)
         };
-        for rotation in seen.standing.iter().skip(passed) {
-            write!(f, " {}", Moves(rotation.as_slice()))?;
+        let mut rest = seen.standing.as_slice();
+        for (index, size) in seen.sizes.iter().enumerate() {
+            let (rotation, others) = rest.split_at(rest.len().min(*size));
+            if index >= passed {
+                write!(f, " {}", Moves(rotation))?;
+            }
+            rest = others;
         }
         match &seen.drain {
             None => write!(f, " drain none")?,

@@ -10,6 +10,21 @@ fn empty_input_is_at_its_end(rt: HostRuntime) {
     assert_eq!(rt; reader.next(), Ok(None));
 }
 
+/// A field at any place: whoever puts one together owes nothing.
+fn empty_at(at: usize) -> Frame<'static> {
+    Frame {
+        tag: 6,
+        at,
+        content: &[],
+    }
+}
+
+#[test]
+fn a_field_may_stand_anywhere(rt: HostRuntime) {
+    assert_eq!(rt; empty_at(usize::MAX).at, usize::MAX);
+    assert!(rt; empty_at(0) != empty_at(1));
+}
+
 #[test]
 fn two_bytes_are_cut_off(rt: HostRuntime) {
     let mut reader = Reader::new(&[1, 0]);

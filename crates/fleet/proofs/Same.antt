@@ -1,5 +1,6 @@
 -- Words as sets: their members are workers, words with the same members are the same, and what adding or removing a number gives below 64 and past 63.
-use Rattle.std.proofs.Common.{◌≡◌, ℕ, ◌^◌, ◌<◌, ◌≤◌, ◌⊎◌, ap, inl, inr, arith}
+use Rattle.std.proofs.Common.{◌≡◌, ℕ, ◌^◌, ◌<◌, ◌≤◌, ◌⊎◌, ap, subst, inl, inr, arith}
+use native.Mathlib.Bridge.{le_prop}
 use mathlib.Core.Path.{fun_ext}
 use Rattle.std.proofs.lemmas.Bool.{cases_lt, both_ways}
 use Rattle.std.proofs.lemmas.Bool.Decides.{nat_tests}
@@ -20,6 +21,16 @@ members_workers s = word_workers s.bits s.fits
 
 pub same_members : (s t : WorkerSet) → members s ≡ members t → s.bits ≡ t.bits
 same_members s t e = same_bits 64 s.bits t.bits s.fits t.fits (λ w. ap (λ (A : Set). A w) e)
+
+-- so a set is its members
+pub same_set : (s t : WorkerSet) → members s ≡ members t → s ≡ t
+same_set s t e = go s.bits t.bits (same_members s t e) s.fits t.fits
+  where
+    word : (a : ℕ) → a < 2 ^ 64 → WorkerSet
+    word a p = record { bits = a; fits = p }
+
+    go : (a b : ℕ) → a ≡ b → (p : a < 2 ^ 64) (q : b < 2 ^ 64) → word a p ≡ word b q
+    go a b k p q = subst (λ (x : ℕ). (f : x < 2 ^ 64) → word a p ≡ word x f) k (λ f. ap (word a) (le_prop p f)) q
 
 -- below 64, `with_worker` inserts
 pub with_insert : (A : Set) (v : ℕ) → v < 64 → with_worker A v ≡ insert A v

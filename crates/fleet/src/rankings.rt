@@ -47,10 +47,16 @@ impl<const N: usize> Ranking<N> {
     }
 
     /// Is the number ranked?
+    #[tactic(auto, using(crate::proofs::Different::among_on))]
     pub fn contains(&self, number: u8) -> bool
         ensures { result ≡ among (listed self.now) number }
     {
-        self.as_slice().contains(&number)
+        // Kept apart: a short ranking is looked through until the number comes, a long one group by group, since either takes less time there.
+        if N <= 16 {
+            self.rank(number) < self.len()
+        } else {
+            self.as_slice().contains(&number)
+        }
     }
 
     /// Are all numbers of the ranking below the bound?

@@ -18,6 +18,7 @@ pub struct EventReader<'a> {
 
 /// The event that a field says.
 fn event_in(field: Frame<'_>) -> Result<Event, JournalFault>
+    requires { field.at + 3 + length field.content.now < 2 ^ 63 }
     ensures { result ≡ defined_event_in (part_of field.entry) }
 {
     let at = field.at;

@@ -1,11 +1,11 @@
--- Who is turned away, one tenant more; and one pair more closed.
-use Rattle.std.proofs.Common.{◌≡◌, ℕ, ◌+◌, ◌<◌, true, cond, eqb, List, length, get_or, set, replicate, sym, refl, ap, ◌∙◌, inl, inr, arith}
+-- Where the workers stand; who is turned away, one tenant more; and one pair more closed.
+use Rattle.std.proofs.Common.{◌≡◌, ℕ, ◌+◌, ◌-◌, ◌<◌, true, cond, eqb, List, ◌++◌, length, drop, get_or, set, replicate, sym, refl, ap, ◌∙◌, inl, inr, arith}
 use mathlib.Core.Path.{fun_ext}
-use Rattle.std.proofs.lemmas.List.{get_or-set_same, get_or-set_other, get_or-replicate, ext_get_or}
-use Rattle.std.proofs.lemmas.Bool.{cases_eq, eq-eqb, ne_eqb, false≢true}
+use Rattle.std.proofs.lemmas.List.{get_or-set_same, get_or-set_other, get_or-replicate, length-replicate, get_or_past, get_or_append_left, get_or-append_right, get_or-drop, ext_get_or}
+use Rattle.std.proofs.lemmas.Bool.{cases_eq, cases_lt, eq-eqb, ne_eqb, false≢true}
 use Rattle.std.proofs.lemmas.Bool.Decides.{nat_tests}
 use Rattle.fleet.specs.Sets.{Set, Workers, nobody, singleton, union, minus}
-use Rattle.fleet.specs.Market.{Market, Placement, staff}
+use Rattle.fleet.specs.Market.{Market, Sound, Placement, staff}
 use Rattle.fleet.specs.Members.{members}
 use Rattle.fleet.specs.declared.worker_set.WorkerSet.{WorkerSet}
 use Rattle.fleet.proofs.Sizes.{set_ext, same_at}
@@ -22,6 +22,25 @@ get_d_set l i a d v h = elim (cases_eq v i) [
   | inl e ↦ rw (e, get_or-set_same l i a d h, eq-eqb i i refl)
   | inr n ↦ rw (get_or-set_other l i v a d n, ne_eqb v i n)
 ]
+
+-- a tenant of nobody, wherever it is asked for
+none_left : (k n v : ℕ) → place (drop k (replicate n 255)) v ≡ 255
+none_left k n v = elim (cases_lt (k + v) n) [
+  | inl q ↦ get_or-drop k (replicate n 255) v 255 ∙ get_or-replicate n (k + v) 255 255 q
+  | inr q ↦ get_or-drop k (replicate n 255) v 255 ∙ get_or_past (replicate n 255) (k + v) 255 (omega (arith, length-replicate {A = ℕ} n 255))
+]
+
+-- all workers stand, and past them nobody does
+pub stands_all : {m : Market} → Sound m → (closed own : List ℕ) (k n : ℕ) → k ≡ m.workers → length own ≡ m.workers →
+    ((v : ℕ) → v < m.workers → place own v ≡ stands m closed v) → place (own ++ drop k (replicate n 255)) ≡ stands m closed
+stands_all {m} sound closed own k n e long f = fun_ext at
+  where
+    at : (v : ℕ) → place (own ++ drop k (replicate n 255)) v ≡ stands m closed v
+    at v = elim (cases_lt v m.workers) [
+      | inl q ↦ get_or_append_left own (drop k (replicate n 255)) 255 v (omega arith) ∙ f v q
+      | inr q ↦ get_or-append_right own (drop k (replicate n 255)) m.workers v 255 long q ∙ none_left k n (v - m.workers) ∙
+          sym (ap (λ (r : List ℕ). get_or r (get_or closed v 0) 255) (sound.past_empty v q))
+    ]
 
 module _ (C : Policy) (x : Placement) (t : ℕ) where
   pub away_more : (w : ℕ) → union (away C x t) (minus (staff x t) (C t (staff x t))) w ≡ away C x (t + 1) w

@@ -74,7 +74,8 @@ impl<P: Policy> Farm<'_, P> {
         ensures { place result.places ≡ stands_at (market self.now.lists.now) closed.now }
     {
         let mut places = [255; 64];
-        for (w, place) in places.iter_mut().enumerate() {
+        let workers = self.lists.workers() as usize;
+        for (w, place) in places[..workers].iter_mut().enumerate() {
             *place = self.stands(closed, w as u8);
         }
         Placement { places }

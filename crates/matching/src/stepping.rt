@@ -1,6 +1,7 @@
 // Where a worker would go next.
-ghost use Rattle.std.specs.Prelude.{◌≡◌, ◌+◌, ◌<◌, ◌≤◌, drop, Some};
-ghost use Rattle.fleet.specs.Sets.{minus, insert};
+ghost use Rattle.std.specs.Prelude.{◌≡◌, ◌+◌, ◌≤◌, drop, Some, IfSome};
+ghost use Rattle.std.specs.Option.{option_map};
+ghost use Rattle.fleet.specs.Sets.{insert};
 ghost use Rattle.fleet.specs.Market.{staff as staff_at};
 ghost use Rattle.fleet.specs.Members.{members};
 ghost use Rattle.matching.specs.Farms.{placed, choices, in_situation};
@@ -17,12 +18,7 @@ impl<P: Policy> Situation<'_, P> {
     pub fn step(&self, worker: u8) -> Option<u8>
         ensures { result ≡ in_situation P.chosen self.now step_at worker }
     {
-        if worker >= 64 {
-            return None;
-        }
-        let list = self.farm.lists.list(worker);
-        let own = list.rank(self.staffing.placement.tenant(worker));
-        self.first_wanting(worker, beyond(list.as_slice(), own))
+        self.step_keeping(worker).map(|(tenant, _)| tenant)
     }
 
     /// A worker's successor: the worker that is put out where it steps to. At a stable placement
@@ -31,34 +27,41 @@ impl<P: Policy> Situation<'_, P> {
         ensures value { result ≡ in_situation P.chosen self.now successor_at worker }
         ensures one { in_situation P.chosen self.now OnePutOut worker }
     {
-        let tenant = self.step(worker)?;
-        self.put_out(tenant, worker).lowest()
+        let (tenant, kept) = self.step_keeping(worker)?;
+        self.put_out(tenant, worker, kept).lowest()
     }
 
     /// The tenant that a worker steps to, with the worker that is put out there, if one is.
     pub fn displacement(&self, worker: u8) -> Option<(u8, u8)>
         ensures { result ≡ in_situation P.chosen self.now displacement_at worker }
     {
-        let tenant = self.step(worker)?;
-        let next = self.put_out(tenant, worker).lowest()?;
+        let (tenant, kept) = self.step_keeping(worker)?;
+        let next = self.put_out(tenant, worker, kept).lowest()?;
         Some((tenant, next))
     }
 
-    // The workers of the tenant that the worker steps to that it would let go for the worker.
-    fn put_out(&self, tenant: u8, worker: u8) -> WorkerSet
-        requires { Some tenant ≡ in_situation P.chosen self.now step_at worker }
-        ensures { members result ≡ defined_put_out (choices P.chosen self.now) (placed self.now) tenant worker }
+    // The tenant that a worker steps to, and whom it would choose out of its own workers and this one.
+    #[inline(always)]
+    fn step_keeping(&self, worker: u8) -> Option<(u8, WorkerSet)>
+        ensures tenant { option_map (λ r. r.0) result ≡ in_situation P.chosen self.now step_at worker }
+        ensures kept { IfSome result (λ r. members r.1 ≡ choices P.chosen self.now r.0 (insert (staff_at (placed self.now) r.0) worker)) }
     {
-        self.let_go(self.staffing.staff(tenant), tenant, worker)
+        if worker >= 64 {
+            return None;
+        }
+        let list = self.farm.lists.list(worker);
+        let own = list.rank(self.staffing.placement.tenant(worker));
+        self.first_keeping(worker, beyond(list.as_slice(), own))
     }
 
-    // Those of these workers that the tenant would not choose out of its own and the worker. Kept: a
-    // worker below 64, as where a policy is asked.
-    fn let_go(&self, staff: WorkerSet, tenant: u8, worker: u8) -> WorkerSet
-        requires { worker < 64 }
-        ensures { members result ≡ minus (members staff) (choices P.chosen self.now tenant (insert (staff_at (placed self.now) tenant) worker)) }
+    // The workers of the tenant that the worker steps to that it would let go for the worker: those
+    // that are not among whom it would keep.
+    fn put_out(&self, tenant: u8, worker: u8, kept: WorkerSet) -> WorkerSet
+        requires step { Some tenant ≡ in_situation P.chosen self.now step_at worker }
+        requires kept { members kept ≡ choices P.chosen self.now tenant (insert (staff_at (placed self.now) tenant) worker) }
+        ensures { members result ≡ defined_put_out (choices P.chosen self.now) (placed self.now) tenant worker }
     {
-        staff.minus(self.kept_with(tenant, worker))
+        self.staffing.staff(tenant).minus(kept)
     }
 }
 

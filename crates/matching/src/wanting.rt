@@ -1,6 +1,7 @@
 // Which workers a tenant keeps, and whether it wants one.
-ghost use Rattle.std.specs.Prelude.{◌≡◌, ◌<◌};
+ghost use Rattle.std.specs.Prelude.{◌≡◌, ◌<◌, IfSome};
 ghost use Rattle.std.specs.List.{find};
+ghost use Rattle.std.specs.Option.{option_map};
 ghost use Rattle.fleet.specs.Sets.{insert};
 ghost use Rattle.fleet.specs.Market.{staff};
 ghost use Rattle.fleet.specs.Members.{members};
@@ -22,12 +23,21 @@ impl<P: Policy> Situation<'_, P> {
         self.farm.policy.choose(tenant, asked)
     }
 
-    // Would the tenant choose the worker out of its own workers and this one?
-    pub(crate) fn wants(&self, worker: u8, tenant: u8) -> bool
+    // The first of these tenants that would choose the worker out of its own workers and this one, and
+    // whom it would choose out of them.
+    pub(crate) fn first_keeping(&self, worker: u8, tenants: &[u8]) -> Option<(u8, WorkerSet)>
         requires { worker < 64 }
-        ensures { result ≡ wants_at (choices P.chosen self.now) (placed self.now) worker tenant }
+        ensures tenant { option_map (λ r. r.0) result ≡ find (wants_at (choices P.chosen self.now) (placed self.now) worker) tenants.now }
+        ensures kept { IfSome result (λ r. members r.1 ≡ choices P.chosen self.now r.0 (insert (staff (placed self.now) r.0) worker)) }
     {
-        self.kept_with(tenant, worker).contains(worker)
+        // Kept: a loop, since each tenant is asked once, for the test and for the answer.
+        for tenant in tenants {
+            let kept = self.kept_with(*tenant, worker);
+            if kept.contains(worker) {
+                return Some((*tenant, kept));
+            }
+        }
+        None
     }
 
     // The first of these tenants that wants the worker.
@@ -35,9 +45,7 @@ impl<P: Policy> Situation<'_, P> {
         requires { worker < 64 }
         ensures { result ≡ find (wants_at (choices P.chosen self.now) (placed self.now) worker) tenants.now }
     {
-        tenants
-            .iter()
-            .copied()
-            .find(|tenant| self.wants(worker, *tenant))
+        self.first_keeping(worker, tenants)
+            .map(|(tenant, _)| tenant)
     }
 }

@@ -8,7 +8,7 @@ ghost use Rattle.plans.specs.Plans.{plan_shown, plan_told, plan_of};
 ghost use Rattle.plans.specs.Laws.{EndsBest, BestAtLast};
 
 use board::Board;
-use fleet::Event;
+use fleet::{Event, EventKind};
 use report::{Settlement, Unread, read_input};
 use runs::new_boards_move_on;
 use sheet::sheet::Sheet;
@@ -66,7 +66,10 @@ impl fmt::Display for Plan {
     fn fmt<W: fmt::Write>(&self, f: &mut fmt::Formatter<W>) -> fmt::Result {
         write!(f, "{}", self.settlement)?;
         for event in self.log.iter().take(self.events) {
-            write!(f, "\n{event}")?;
+            // A board's events have one of the four kinds; whoever puts a plan together may write another number, which is printed as the last kind.
+            let kind = EventKind::try_from(event.kind).unwrap_or(EventKind::Rewind);
+            let kind = kind.number();
+            write!(f, "\n{}", Event { kind, ..*event })?;
         }
         write!(f, "\nend {}", self.next)
     }

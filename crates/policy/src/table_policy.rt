@@ -28,9 +28,7 @@ fn index_of(workers: &[u8], of: WorkerSet) -> usize
 {
     let mut index = 0;
     for (place, worker) in workers.iter().enumerate() {
-        if of.contains(*worker) {
-            index += 1 << place;
-        }
+        index += usize::from(of.contains(*worker)) << place;
     }
     index
 }

@@ -1,3 +1,4 @@
--- Definitions: what an input comes to, and how a sheet settles.
+-- Definitions: bytes written in digits, what an input comes to, and how a sheet settles.
+pub mod Digits
 pub mod Inputs
 pub mod Settlements

@@ -1,9 +1,8 @@
 -- A search upward is a search in the list of the numbers.
-use Rattle.std.proofs.Common.{◌≡◌, ℕ, zero, suc, Bool, cond, eqb, ◌||◌, List, [], ◌∷◌, Some, Option, sym, refl, ap, ◌∙◌, add-one}
+use Rattle.std.proofs.Common.{◌≡◌, ℕ, zero, suc, Bool, cond, Some, Option, sym, refl, ap, ◌∙◌, add-one}
 use Rattle.std.proofs.lemmas.Iterator.Adapters.{option_map_id}
-use Rattle.std.specs.List.{find, range_with_len, list_any}
+use Rattle.std.specs.List.{find, range_with_len}
 use Rattle.std.specs.Option.{option_map}
-use Rattle.fleet.specs.Sets.{among}
 use Rattle.policy.specs.Search.{seek}
 
 -- the first of so many numbers that passes
@@ -14,8 +13,3 @@ find_seek (suc k) i p = rw (add-one) (ap (λ (o : Option ℕ). cond (p i) (Some 
 
 pub sought : (n : ℕ) (p : ℕ → Bool) (o : Option ℕ) → option_map (λ x. x) o ≡ find p (range_with_len 0 n) → o ≡ seek n 0 p
 sought n p o e = sym (option_map_id o) ∙ e ∙ find_seek n 0 p
-
--- a number is among others where one of them equals it
-pub any_among : (l : List ℕ) (v : ℕ) → list_any (λ y. eqb y v) l ≡ among l v
-any_among [] v = refl
-any_among (x ∷ xs) v = ap (λ (b : Bool). eqb x v || b) (any_among xs v)

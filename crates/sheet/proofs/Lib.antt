@@ -1,5 +1,6 @@
 -- Lemmas on fields, on the rows that they say, and on sheets and their bytes.
 pub mod Parts
+pub mod Seen
 pub mod Lists
 pub mod Numbers
 pub mod TableSizes

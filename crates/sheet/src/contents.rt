@@ -81,7 +81,7 @@ impl Kind {
     }
 }
 
-// Kept in the two searches below: places, since a number's range goes by its place, and a number is looked for among those before its place.
+// Kept: places, since a number's range goes by its place.
 /// The place in the content of the first number that is outside its range.
 fn first_out_of_range(kind: Kind, size: Size, content: &[u8]) -> Option<usize>
     ensures value { result ≡ out_of_range kind size content.now }
@@ -91,16 +91,26 @@ fn first_out_of_range(kind: Kind, size: Size, content: &[u8]) -> Option<usize>
     (0..end).find(|place| !kind.in_range(size, *place, content[*place]))
 }
 
+// Kept: a loop that marks what it has seen, since each number is looked at once so, and the search for it among those before its place takes half again as long on lists of 16.
 /// The place of the first number of a list that stands there before.
 fn first_repeated(list: &[u8]) -> Option<usize>
     ensures value { result ≡ repeated list.now }
     ensures within { unwrap_or result 0 ≤ length list.now }
 {
-    (0..list.len()).find(|place| list[..*place].contains(&list[*place]))
+    let mut seen = [false; 256];
+    for (place, number) in list.iter().enumerate() {
+        let number = *number as usize;
+        if seen[number] {
+            return Some(place);
+        }
+        seen[number] = true;
+    }
+    None
 }
 
 /// What is wrong with the content of a field of this kind: its length, then a number outside its range, then a number twice in its list.
 fn check_content(kind: Kind, size: Size, frame: Frame<'_>) -> Result<(), FieldFault>
+    requires { frame.at + 3 + length frame.content.now < 2 ^ 63 }
     ensures { refusal result ≡ content_fault kind size (part_of frame.entry) }
 {
     let content = frame.content;

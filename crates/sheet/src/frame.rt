@@ -1,11 +1,10 @@
 // A field as it is cut out.
-ghost use Rattle.std.specs.Prelude.{◌+◌, ◌^◌, ◌<◌, length};
 
+// Kept without its bound: anyone may put a frame together, so that one which was cut out fits 63 bits is said by the calls that cut.
 /// A field as the part of the input that it is: its tag, its content, and the offset of its first byte.
 #[derive(Clone, Copy, PartialEq, Eq, Debug)]
 pub struct Frame<'a> {
     pub tag: u8,
     pub at: usize,
     pub content: &'a [u8],
-    ghost fits: { at + 3 + length content.now < 2 ^ 63 },
 }

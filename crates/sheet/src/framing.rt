@@ -1,5 +1,5 @@
 // Layer 1: cuts the bytes of a sheet into fields, whatever they mean.
-ghost use Rattle.std.specs.Prelude.{◌≡◌};
+ghost use Rattle.std.specs.Prelude.{◌≡◌, ◌+◌, ◌^◌, ◌<◌, length, IfSome, IfOk};
 ghost use Rattle.sheet.specs.Framing.{input, found, handed, required, frame_at, place_after};
 ghost use Rattle.sheet.specs.Laws.{FieldsAreTheBytes};
 
@@ -29,6 +29,7 @@ impl<'a> Reader<'a> {
         ensures value { found result ≡ frame_at (input self.old) self.old.place }
         ensures place { self.new.place ≡ place_after (input self.old) self.old.place }
         ensures input { input self.new ≡ input self.old }
+        ensures fits { IfOk result (λ o. IfSome o (λ f. f.at + 3 + length f.content.now < 2 ^ 63)) }
     {
         let at = self.place;
         let bytes = self.bytes;
@@ -53,6 +54,7 @@ impl<'a> Reader<'a> {
         ensures value { handed result ≡ required self.old.place (frame_at (input self.old) self.old.place) }
         ensures place { self.new.place ≡ place_after (input self.old) self.old.place }
         ensures input { input self.new ≡ input self.old }
+        ensures fits { IfOk result (λ f. f.at + 3 + length f.content.now < 2 ^ 63) }
     {
         let at = self.place;
         self.next()?.ok_or(FramingFault { at })

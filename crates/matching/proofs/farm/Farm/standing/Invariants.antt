@@ -6,4 +6,4 @@ use Rattle.matching.specs.Settling.{stands}
 use Rattle.matching.proofs.farm.Farm.standing.Given as goal
 
 abbrev pub invariant-loop-w : goal.invariant-loop-w
-invariant-loop-w g l = (length l.place-items ≡ 64) × ((v : ℕ) → v < l.w → place l.place-items v ≡ stands (market l.self.lists.now) l.closed v)
+invariant-loop-w g l = (length l.place-items ≡ (market l.self.lists.now).workers) × ((v : ℕ) → v < l.w → place l.place-items v ≡ stands (market l.self.lists.now) l.closed v)
