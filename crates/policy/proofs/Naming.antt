@@ -2,7 +2,6 @@
 use Rattle.std.proofs.Common.{◌≡◌, ℕ, ◌+◌, ◌*◌, ◌/◌, ◌%◌, ◌^◌, ◌<◌, ◌≤◌, Bool, true, false, cond, ◌&&◌, eqb, ltb, ◌⊎◌, List, [], ◌∷◌, ◌++◌, length, get_or, take, sym, ap, ◌∙◌, inl, inr, arith, pow-suc, pow_mono}
 use mathlib.Core.Path.{fun_ext}
 use lib.Bits.{bit_and}
-use mir.Val.{bool_byte}
 use Rattle.std.proofs.lemmas.Nat.{and_mask}
 use Rattle.std.proofs.lemmas.List.{take_more, length-take-le}
 use Rattle.std.proofs.lemmas.Bool.{cases_eq}
@@ -31,11 +30,6 @@ module _ (ws : List ℕ) (Z : Set) (i : ℕ) (few : length ws ≤ 8) (l : i < le
 
   pub bit_alone : (1 * 2 ^ i) % 18446744073709551616 ≡ 2 ^ i
   bit_alone = let s = bit_small in grind arith
-
-  -- and is there or not
-  pub bit_if : (b : Bool) → (bool_byte b * 2 ^ i) % 18446744073709551616 ≡ cond b (2 ^ i) 0
-  bit_if true = bit_alone
-  bit_if false = grind arith
 
   pub index_more : index_of (take (i + 1) ws) Z ≡ index_of (take i ws) Z + cond (Z (get_or ws i 0)) (2 ^ i) 0
   index_more =

@@ -28,7 +28,9 @@ fn index_of(workers: &[u8], of: WorkerSet) -> usize
 {
     let mut index = 0;
     for (place, worker) in workers.iter().enumerate() {
-        index += usize::from(of.contains(*worker)) << place;
+        if of.contains(*worker) {
+            index += 1 << place;
+        }
     }
     index
 }
